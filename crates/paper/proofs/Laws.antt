@@ -1,0 +1,8 @@
+pub mod Answers
+pub mod Gives
+pub mod Found
+pub mod Rescan
+pub mod Enough
+pub mod EnoughScan
+pub mod DecodeFree
+pub mod DecodeAt

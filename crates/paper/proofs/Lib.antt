@@ -1,0 +1,9 @@
+pub mod Open
+pub mod Laws
+pub mod Checked
+pub mod Compiled
+pub mod Decoded
+pub mod Legal
+pub mod Demands
+pub mod ReadExactly
+pub mod Instances

@@ -1,0 +1,12 @@
+pub mod Sequence
+pub mod Printed
+pub mod Sound
+pub mod Complete
+pub mod Fit
+pub mod Placed
+pub mod Late
+pub mod Continues
+pub mod Stuck
+pub mod ScanRefused
+pub mod Exact
+pub mod Once
