@@ -10,7 +10,7 @@ use mathlib.Core.Option.{Option, none, some}
 use lib.ListN.{length, take, drop}
 use lib.IntN.{ℤ, pos, negsuc}
 use lib.Dec.{leb, ltb, eqb}
-use Rattle.paper.specs.Bytes.{if_then_else_}
+use Rattle.paper.specs.Bytes.{empty, if_then_else_}
 use Rattle.paper.specs.Maybe.{_>>=_, require}
 use Rattle.paper.specs.Syntax.{Name, Path, Basic, boolean, null, integer, decimal, string, reference, vector, Basics, εⱽ, _∷ⱽ_}
 use Rattle.paper.specs.Tokens.{reserved, member, Token, name, literal, mark, end}
@@ -149,14 +149,14 @@ unfoldable mutual
   basic-at zero form d k m v at = none
   basic-at (suc f) form d k m v at =
       if eqb k 7
-          then (do
-            _ ← require (eqb v 0)
-            _ ← require (leb d (form .top))
-            (bs, at) ← elements-at f form (suc d) (m - 1) at
-            some (vector bs, at))
-          else (do
-            _ ← require (eqb m 1)
-            leaf k v at)
+      then (do
+        _ ← require (eqb v 0)
+        _ ← require (leb d (form .top))
+        (bs, at) ← elements-at f form (suc d) (m - 1) at
+        some (vector bs, at))
+      else (do
+        _ ← require (eqb m 1)
+        leaf k v at)
 
   -- elements at depth d, of which there are n records in all
   pub elements-at : ℕ → Form → ℕ → ℕ → Cursor → Option (Basics × Cursor)
@@ -194,10 +194,6 @@ header form r n t b = do
   _ ← require (eqb total (place + long))
   _ ← require (eqb total (length b))
   some (count, record { recs = take (r * count) s; text = drop (r * count) s; pos = 0 })
-
-unfoldable pub empty : List ℕ → Bool
-empty [] = true
-empty (b ∷ s) = false
 
 -- nothing is left
 unfoldable pub ended : Cursor → Option (Unit {0})

@@ -5,8 +5,10 @@ pub mod Maybe
 -- document 01, Tokens and Grammar
 pub mod Syntax
 pub mod Tokens
+pub mod Written
 pub mod Scanner
 pub mod Grammar
+pub mod Described
 pub mod Reader
 -- Meaning and Bounds
 pub mod Store

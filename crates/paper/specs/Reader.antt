@@ -5,32 +5,15 @@
 use Prim.Native.Nat.{ℕ, zero, suc, _+_, _*_, _-_}
 use Prim.Native.Char.{Char}
 use Prim.Native.String.{String}
-use mathlib.Core.Bool.{Bool, true, false, not}
+use mathlib.Core.Bool.{true, false}
 use mathlib.Core.List.{List, [], _∷_}
 use lib.ListN.{length}
 use lib.Dec.{leb, ltb}
-use Rattle.paper.specs.Bytes.{bytes, is, same, if_then_else_}
+use Rattle.paper.specs.Bytes.{if_then_else_}
 use Rattle.paper.specs.Answer.{Answer, ok, refused, _>>=_, demand}
 use Rattle.paper.specs.Syntax.{Path, Basic, boolean, null, reference, vector, Basics, εⱽ, _∷ⱽ_, Block, εᴮ, _∷ᴮ_, assign, Value, basic, link, extends, Prototypes, εᴾ, named, block}
-use Rattle.paper.specs.Tokens.{reserved, member, Token, name, literal, mark, end}
-use Rattle.paper.specs.Scanner.{Here, next}
-
--- ---- tests on tokens
-
-unfoldable pub is-name : Token → Bool
-is-name t = elim t [ name n ↦ not (member n reserved) | literal b ↦ false | mark m ↦ false | end ↦ false ]
-
-unfoldable pub is-word : String → Token → Bool
-is-word w t = elim t [ name n ↦ same n (bytes w) | literal b ↦ false | mark m ↦ false | end ↦ false ]
-
-unfoldable pub is-mark : Char → Token → Bool
-is-mark c t = elim t [ name n ↦ false | literal b ↦ false | mark m ↦ is c m | end ↦ false ]
-
-unfoldable pub is-end : Token → Bool
-is-end t = elim t [ name n ↦ false | literal b ↦ false | mark m ↦ false | end ↦ true ]
-
-unfoldable pub spelling : Token → List ℕ
-spelling t = elim t [ name n ↦ n | literal b ↦ [] | mark m ↦ [] | end ↦ [] ]
+use Rattle.paper.specs.Tokens.{Token, name, literal, mark, end, is-name, is-word, is-mark, is-end, spelling, Here}
+use Rattle.paper.specs.Scanner.{next}
 
 -- ---- marks, words and references
 

@@ -4,12 +4,11 @@ use mathlib.Core.Bool.{Bool, true, false, not, _&&_, _||_}
 use mathlib.Core.List.{List, [], _∷_}
 use mathlib.Core.Option.{Option, none, some}
 use lib.ListN.{length, take, drop}
-use lib.IntN.{ℤ, pos, negℤ}
 use lib.Dec.{leb, ltb, eqb}
-use Rattle.paper.specs.Bytes.{at, is, among, between, if_then_else_}
+use Rattle.paper.specs.Bytes.{at, empty, is, among, between, if_then_else_}
 use Rattle.paper.specs.Answer.{Answer, ok, refused, _>>=_}
 use Rattle.paper.specs.Syntax.{integer, decimal, string}
-use Rattle.paper.specs.Tokens.{blank, digit, octal, starts, goes-on, in-range, Token, name, literal, mark, end}
+use Rattle.paper.specs.Tokens.{blank, digit, octal, starts, goes-on, in-range, valued, escaped, Token, name, literal, mark, end, Here, past}
 
 -- how many bytes at the front pass the test
 unfoldable pub span : (ℕ → Bool) → List ℕ → ℕ
@@ -31,14 +30,6 @@ gap s =
     if is "/" (at s 0) && is "/" (at s 1) then some (2 + span (λ b. not (is "\n" b)) (drop 2 s)) else
     if is "/" (at s 0) && is "*" (at s 1) then elim (closing (drop 2 s)) [ none ↦ none | some n ↦ some (2 + n) ] else
     some 0
-
--- a place in the source, and "the rest of the source" from there
-pub record Here : Type 0 where
-  pub place : ℕ
-  pub rest : List ℕ
-
-unfoldable pub past : ℕ → Here → Here
-past n h = record { place = h .place + n; rest = drop n (h .rest) }
 
 -- where the next token stands; "(none: 2 at its first byte)" for `/*` with no `*/`.
 -- The count f is enough if it is the length of the rest.
@@ -79,14 +70,6 @@ fraction s = if is "." (at s 0) then digits-after 1 s else 0
 unfoldable pub exponent : List ℕ → ℕ
 exponent s = if among "eE" (at s 0) then digits-after (1 + sign (among "+-") (at s 1)) s else 0
 
--- the number that decimal digits say, after n
-unfoldable pub count : ℕ → List ℕ → ℕ
-count n [] = n
-count n (b ∷ s) = count (n * 10 + (b - 48)) s
-
-unfoldable pub valued : List ℕ → ℤ
-valued s = if is "-" (at s 0) then negℤ (pos (count 0 (drop 1 s))) else pos (count 0 s)
-
 -- the number at the front of s, whose integer part has n bytes, and which has m bytes in all:
 -- "it may not be followed at once by a name byte or `.`"; a decimal has at most 4,095 bytes
 unfoldable pub number : ℕ → ℕ → List ℕ → Scanned
@@ -95,21 +78,10 @@ number n m s =
     if ltb n m then (if leb m 4095 then token (literal (decimal (take m s))) m else fault 6) else
     if in-range (valued (take n s)) then token (literal (integer (valued (take n s)))) n else fault 4
 
--- "escapes `\n \t \b \r \f \\ \" \'`": the byte that is meant
-unfoldable pub escaped : ℕ → Option ℕ
-escaped b =
-    if is "n" b then some 10 else
-    if is "t" b then some 9 else
-    if is "b" b then some 8 else
-    if is "r" b then some 13 else
-    if is "f" b then some 12 else
-    if among "\\\"'" b then some b else
-    none
-
 -- a byte of a string: "no raw LF or CR"; "three octal digits, the first 0 to 3". The byte that is meant, and how many bytes mean it
 unfoldable pub meant : List ℕ → Option (ℕ × ℕ)
 meant s =
-    if among "\n\r" (at s 0) || eqb (at s 0) 256 then none else
+    if among "\n\r" (at s 0) || empty s then none else
     if not (is "\\" (at s 0)) then some (at s 0, 1) else
     if between "0" "3" (at s 1) && octal (at s 2) && octal (at s 3) then some ((at s 1 - 48) * 64 + (at s 2 - 48) * 8 + (at s 3 - 48), 4) else
     elim (escaped (at s 1)) [ none ↦ none | some b ↦ some (b, 2) ]
@@ -135,7 +107,7 @@ text (some r) = if leb (length (r .0)) 4095 then token (literal (string (r .0)))
 unfoldable pub scan : List ℕ → Scanned
 scan s =
     let b = at s 0 in
-    if eqb b 256 then token end 0 else
+    if empty s then token end 0 else
     if starts b then named (span goes-on s) s else
     if digit b || is "-" b then (let n = whole s in let m = n + fraction (drop n s) in number n (m + exponent (drop m s)) s) else
     if is "\"" b then text (quoted (length s) (drop 1 s)) else

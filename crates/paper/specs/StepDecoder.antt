@@ -5,10 +5,10 @@ use mathlib.Core.List.{List}
 use mathlib.Core.Option.{Option, none, some}
 use lib.ListN.{length}
 use lib.Dec.{leb, ltb, eqb}
-use Rattle.paper.specs.Bytes.{if_then_else_}
+use Rattle.paper.specs.Bytes.{empty, if_then_else_}
 use Rattle.paper.specs.Maybe.{_>>=_, require}
 use Rattle.paper.specs.Syntax.{Block, εᴮ, _∷ᴮ_, assign, Value, basic, link, extends, Prototypes, εᴾ, named, block}
-use Rattle.paper.specs.Decoder.{Cursor, Raw, Form, record-at, field, path-of, basic-at, header, empty, ended}
+use Rattle.paper.specs.Decoder.{Cursor, Raw, Form, record-at, field, path-of, basic-at, header, ended}
 
 unfoldable pub in-steps : Form
 in-steps = record { width = 4; top = 31; kind-in = λ x. x .second; fits = λ d x. eqb (x .first) 7 && (eqb (x .label) 0 && eqb (x .place) 0) }
@@ -67,11 +67,11 @@ unfoldable mutual
         _ ← plain 8 x
         (l, at) ← field path-of (x .value) at
         some (link (x .place) l, at)) else (do
-        _ ← plain 1 x
-        _ ← require (eqb (x .value) 0)
-        (ps, at) ← prototypes-at f d at
-        _ ← require (some-prototype ps)
-        some (extends (x .place) ps, at))
+          _ ← plain 1 x
+          _ ← require (eqb (x .value) 0)
+          (ps, at) ← prototypes-at f d at
+          _ ← require (some-prototype ps)
+          some (extends (x .place) ps, at))
 
   -- prototypes, and the done that closes them
   pub prototypes-at : ℕ → ℕ → Cursor → Option (Prototypes × Cursor)
@@ -84,16 +84,16 @@ unfoldable mutual
       (l, at) ← field path-of (x .label) at
       (ps, at) ← prototypes-at f d at
       some (named (x .place) l ps, at)) else
-      if eqb (x .first) 3 then (do
-        _ ← bare 3 x
-        _ ← require (ltb d 32)
-        (b, at) ← statements-at f (suc d) at
-        (y, at) ← record-at 4 at
-        _ ← bare 4 y
-        (ps, at) ← prototypes-at f d at
-        some (block b ps, at)) else (do
-        _ ← bare 5 x
-        some (εᴾ, at))
+        if eqb (x .first) 3 then (do
+          _ ← bare 3 x
+          _ ← require (ltb d 32)
+          (b, at) ← statements-at f (suc d) at
+          (y, at) ← record-at 4 at
+          _ ← bare 4 y
+          (ps, at) ← prototypes-at f d at
+          some (block b ps, at)) else (do
+            _ ← bare 5 x
+            some (εᴾ, at))
 
 unfoldable pub block-of : List ℕ → Option Block
 block-of b = do

@@ -1,10 +1,14 @@
 -- Tokens (document 01, "Tokens"): the classes of bytes, the reserved words, and what the tokens are. Assumes nothing.
-use Prim.Native.Nat.{ℕ, _^_}
-use mathlib.Core.Bool.{Bool, false, _||_}
+use Prim.Native.Nat.{ℕ, _+_, _*_, _-_, _^_}
+use mathlib.Core.Bool.{Bool, true, false, not, _||_}
+use Prim.Native.Char.{Char}
+use Prim.Native.String.{String}
 use mathlib.Core.List.{List, [], _∷_}
-use lib.IntN.{ℤ, pos, negsuc}
+use mathlib.Core.Option.{Option, none, some}
+use lib.ListN.{drop}
+use lib.IntN.{ℤ, pos, negsuc, negℤ}
 use lib.Dec.{ltb}
-use Rattle.paper.specs.Bytes.{bytes, is, among, between, same}
+use Rattle.paper.specs.Bytes.{bytes, at, is, among, between, same, if_then_else_}
 use Rattle.paper.specs.Syntax.{Basic}
 
 -- "Skipped: space, tab, LF, CR, FF"
@@ -34,10 +38,29 @@ unfoldable pub member : List ℕ → List (List ℕ) → Bool
 member n [] = false
 member n (m ∷ ms) = same n m || member n ms
 
+-- the number that decimal digits say, after n; with a minus before them perhaps
+unfoldable pub count : ℕ → List ℕ → ℕ
+count n [] = n
+count n (b ∷ s) = count (n * 10 + (b - 48)) s
+
+unfoldable pub valued : List ℕ → ℤ
+valued s = if is "-" (at s 0) then negℤ (pos (count 0 (drop 1 s))) else pos (count 0 s)
+
 -- "from -9223372036854775808 to 9223372036854775807"
 unfoldable pub in-range : ℤ → Bool
 in-range (pos n) = ltb n (2 ^ 63)
 in-range (negsuc n) = ltb n (2 ^ 63)
+
+-- "escapes `\n \t \b \r \f \\ \" \'`": the byte that is meant
+unfoldable pub escaped : ℕ → Option ℕ
+escaped b =
+    if is "n" b then some 10 else
+    if is "t" b then some 9 else
+    if is "b" b then some 8 else
+    if is "r" b then some 13 else
+    if is "f" b then some 12 else
+    if among "\\\"'" b then some b else
+    none
 
 -- A name (or a reserved word), an integer, decimal or string with what it says, one of the marks `; , { } [ ] :`, or the end.
 pub data Token : Type 0 where
@@ -45,3 +68,27 @@ pub data Token : Type 0 where
   literal : Basic → Token
   mark : ℕ → Token
   end : Token
+
+-- the token is a name that is not reserved; is this word; is this mark; is the end; and a name's bytes
+unfoldable pub is-name : Token → Bool
+is-name t = elim t [ name n ↦ not (member n reserved) | literal b ↦ false | mark m ↦ false | end ↦ false ]
+
+unfoldable pub is-word : String → Token → Bool
+is-word w t = elim t [ name n ↦ same n (bytes w) | literal b ↦ false | mark m ↦ false | end ↦ false ]
+
+unfoldable pub is-mark : Char → Token → Bool
+is-mark c t = elim t [ name n ↦ false | literal b ↦ false | mark m ↦ is c m | end ↦ false ]
+
+unfoldable pub is-end : Token → Bool
+is-end t = elim t [ name n ↦ false | literal b ↦ false | mark m ↦ false | end ↦ true ]
+
+unfoldable pub spelling : Token → List ℕ
+spelling t = elim t [ name n ↦ n | literal b ↦ [] | mark m ↦ [] | end ↦ [] ]
+
+-- a place in the source, and "the rest of the source" from there
+pub record Here : Type 0 where
+  pub place : ℕ
+  pub rest : List ℕ
+
+unfoldable pub past : ℕ → Here → Here
+past n h = record { place = h .place + n; rest = drop n (h .rest) }

@@ -9,9 +9,10 @@ use lib.ListN.{length, take, drop, length-append, length-take, length-drop, take
 use lib.Seq.{take-at, drop-at, length-take-le}
 use lib.Dec.{leb, ltb, eqb}
 use borrow.Author.Tests.{leb-true, eqb-true, le-leb, eq-eqb}
+use Rattle.paper.specs.Bytes.{empty}
 use Rattle.paper.specs.Maybe.{_>>=_, require}
 use Rattle.paper.specs.Layout.{little, Row, row-bytes, texts, records, laid-out, row-text}
-use Rattle.paper.specs.Decoder.{Cursor, number-of, header, empty, ended}
+use Rattle.paper.specs.Decoder.{Cursor, number-of, header, ended}
 use Rattle.paper.proofs.Decoded.Parts.{Reads, Exact, exact-number, length-little}
 use Rattle.paper.proofs.Decoded.Rows.{Front}
 use Rattle.paper.proofs.Laws.Found.{Found, nothing, found, found-bind, found-require, found-some}
@@ -47,7 +48,7 @@ header-sound form r n t b =
     let count = x₃ .0 in
     let s = x₆ .1 in
     let all : b ≡ little 4 (x₁ .0) ++ (little 4 (x₂ .0) ++ (little 4 count ++ (little 4 (x₄ .0) ++ (little 4 (x₅ .0) ++ (little 4 (x₆ .0) ++ s))))) =
-        rw (h₁ .front, h₂ .front, h₃ .front, h₄ .front, h₅ .front, h₆ .front) in
+    rw (h₁ .front, h₂ .front, h₃ .front, h₄ .front, h₅ .front, h₆ .front) in
     let l : length b ≡ 24 + length s = ap length all ∙ simp (length-append, length-little) (omega arith) in
     let q₁ : x₁ .0 ≡ form = eqb-true _ _ e₁ in
     let q₄ : x₄ .0 ≡ 24 = eqb-true _ _ e₂ in
@@ -73,9 +74,22 @@ header-complete form r n t count recs text lf lr lc ln lt la =
     let place = 24 + r * count in
     let b = headed form count place recs text in
     let l : place + length text ≡ length b = sym (simp (length-append, length-little) (omega arith)) in
-    rw (num form _ lf, eq-eqb form form refl, num (place + length text) _ la, num count _ (omega arith), num 24 _ (omega arith), num (length text) _ (omega arith), num place _ (omega arith),
-    le-leb count n lc, le-leb (length text) t lt, eq-eqb place place refl, eq-eqb (place + length text) (place + length text) refl, eq-eqb (place + length text) (length b) l,
-    take-at recs text (r * count) lr, drop-at recs text (r * count) lr)
+    rw (
+      num form _ lf,
+      eq-eqb form form refl,
+      num (place + length text) _ la,
+      num count _ (omega arith),
+      num 24 _ (omega arith),
+      num (length text) _ (omega arith),
+      num place _ (omega arith),
+      le-leb count n lc,
+      le-leb (length text) t lt,
+      eq-eqb place place refl,
+      eq-eqb (place + length text) (place + length text) refl,
+      eq-eqb (place + length text) (length b) l,
+      take-at recs text (r * count) lr,
+      drop-at recs text (r * count) lr,
+    )
 
 -- rows whose last field has w bytes
 abbrev pub Lasts : ℕ → List Row → Type 0
@@ -105,7 +119,6 @@ pub record Ended (at : Cursor) : Type 0 where
   pub text : at .text ≡ []
 
 empty-nil : (s : List ℕ) → empty s ≡ true → s ≡ []
-unfolding empty
 empty-nil [] e = refl
 empty-nil (b ∷ s) e = absurd (false≢true e)
 
@@ -118,5 +131,5 @@ ended-sound at = found-require _ _ (λ e. go (empty (at .text)) refl (empty-nil 
     go false e r = nothing
 
 pub ended-complete : (at : Cursor) → at .recs ≡ [] → at .text ≡ [] → ended at ≡ some tt
-unfolding ended empty _>>=_ require
+unfolding ended _>>=_ require
 ended-complete at e f = rw (e, f)

@@ -68,7 +68,6 @@ number-complete (suc n) x t h =
     rw (lt-ltb (x % 256) 256 (omega arith), number-complete n (x / 256) t l, q)
 
 pub exact-number : (n : ℕ) → Exact (number-of n) (little n) (Below n)
-
 exact-number n = record { sound = number-sound n; complete = number-complete n }
 
 -- ---- names and paths
@@ -263,8 +262,14 @@ exact-raw w = record {
         good = record { first = h₁ .good; second = h₂ .good; label = h₃ .good; span = h₄ .good; value = h₅ .good; place = h₆ .good };
       })))))));
   complete = λ x t h. simp append-assoc (
-      rw (number-complete 2 (x .first) _ (h .first), number-complete 2 (x .second) _ (h .second), number-complete 2 (x .label) _ (h .label),
-      number-complete 2 (x .span) _ (h .span), number-complete 8 (x .value) _ (h .value), number-complete w (x .place) t (h .place)));
+      rw (
+        number-complete 2 (x .first) _ (h .first),
+        number-complete 2 (x .second) _ (h .second),
+        number-complete 2 (x .label) _ (h .label),
+        number-complete 2 (x .span) _ (h .span),
+        number-complete 8 (x .value) _ (h .value),
+        number-complete w (x .place) t (h .place),
+      ));
 }
 
 abbrev pub make-raw : (a b c d e f : ℕ) → Raw

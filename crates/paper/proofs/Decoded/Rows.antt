@@ -435,7 +435,7 @@ module _ (form : Form) (row : ℕ → ℕ → ℕ → Field → Row) (law : Lawf
         let v = figure (at .pos) (content b) in
         let q : suc (length (elements row d b ++ each row d bs)) - m ≡ length (each row d bs) = omega arith in
         let eb : basic-at f form d (kind b) m v (o .at₁) ≡ some (b, s .mid) =
-            subst (λ p. basic-at f form d (kind b) m (figure p (content b)) (o .at₁) ≡ some (b, s .mid)) (o .own .pos)
-            (basic-complete b f d (o .took) (o .below) (omega (arith, s .right .pos)) (omega arith) (h .0) (w .1) (omega arith)) in
+        subst (λ p. basic-at f form d (kind b) m (figure p (content b)) (o .at₁) ≡ some (b, s .mid)) (o .own .pos)
+        (basic-complete b f d (o .took) (o .below) (omega (arith, s .right .pos)) (omega arith) (h .0) (w .1) (omega arith)) in
         let es : elements-at f form d (length (each row d bs)) (s .mid) ≡ some (bs, after) = elements-complete bs f d (s .right) l (omega arith) (h .1) (w .2) (omega arith) in
         rw (record-complete (o .own), le-leb d 32 (w .0), law .fits (kind b) d m v, law .kinded (kind b) d m v, law .spanned (kind b) d m v, le-leb 1 m (omega arith), le-leb m (suc (length (elements row d b ++ each row d bs))) (omega arith), law .valued (kind b) d m v, eb, q, es)

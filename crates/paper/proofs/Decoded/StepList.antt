@@ -10,7 +10,7 @@ use mathlib.Core.Logic.{_↔_}
 use lib.ListN.{length, length-append}
 use lib.Dec.{T, leb, ltb, eqb}
 use borrow.Author.Tests.{ltb-true, leb-true, eqb-true, eqb-false, lt-ltb, le-leb, eq-eqb, ne-eqb}
-use Rattle.paper.specs.Bytes.{if_then_else_}
+use Rattle.paper.specs.Bytes.{if_then_else_, empty}
 use Rattle.paper.specs.Maybe.{_>>=_, require}
 use Rattle.paper.specs.Syntax.{Name, Path, Basic, boolean, null, integer, decimal, string, reference, vector, Basics, εⱽ, _∷ⱽ_, Block, εᴮ, _∷ᴮ_, Statement, assign, Value, basic, link, extends, Prototypes, εᴾ, named, block}
 use Rattle.paper.specs.Grammar.{brackets, brackets-in, openings, openings-a, openings-v, openings-p, Some}
@@ -18,7 +18,7 @@ use Rattle.paper.specs.Layout.{little, path-text, Field, number, text, R
 use Rattle.paper.specs.Steps.{Step, make, take, enter, leave, done, set, steps, statement-steps, value-steps, prototype-steps}
 use Rattle.paper.specs.StepLayout.{step-row, item, step-rows, all-rows, step-list}
 use Rattle.paper.specs.WellFormed.{IsPath, IsBasic, AreBasic, IsPlace, IsBlock, IsStatement, IsValueOf, ArePrototypes, IsStepList}
-use Rattle.paper.specs.Decoder.{Cursor, Raw, record-at, field, path-of, Form, basic-at, empty, header, ended}
+use Rattle.paper.specs.Decoder.{Cursor, Raw, record-at, field, path-of, Form, basic-at, header, ended}
 use Rattle.paper.specs.StepDecoder.{in-steps, plain, bare, some-prototype, step-here, stops, statements-at, value-at, prototypes-at, block-of}
 use Rattle.paper.proofs.Decoded.Header.{headed, HeaderRead, header-sound, header-complete, Lasts, lasts-++, records-length, laid-out-headed, Ended, ended-sound, ended-complete}
 use Rattle.paper.proofs.Decoded.Parts.{Reads, Exact, exact-path, raw-bytes, Narrow, make-raw, same-raw, length-little}
@@ -400,11 +400,11 @@ bare-parts i xs {at} {after} f low li =
     }
 
 going : {x : Raw} {at after : Cursor} → Record 4 x at after → (x .first ≡ 4 → ⊥) → stops at ≡ false
-unfolding stops step-here empty raw-bytes little
+unfolding stops step-here raw-bytes little
 going {x} r h = rw (record-complete r, r .recs, step-here) (ne-eqb (x .first) 4 h)
 
 leaving : {x : Raw} {at after : Cursor} → Record 4 x at after → x .first ≡ 4 → stops at ≡ true
-unfolding stops step-here empty raw-bytes little
+unfolding stops step-here raw-bytes little
 leaving {x} r h = rw (record-complete r, r .recs, step-here) (eq-eqb (x .first) 4 h)
 
 -- the first record of a statement that is read back: its path, and its value read with the count f
@@ -585,7 +585,7 @@ mutual
       (λ at fr. prototypes-back f d ps at after fr low (omega arith) (h .1) (omega arith) (omega arith))
 
 empty-stops : (at : Cursor) → at .recs ≡ [] → stops at ≡ true
-unfolding stops empty
+unfolding stops
 empty-stops at e = rw e
 
 -- how long a step list is
@@ -605,9 +605,12 @@ steps-complete b d h =
     let start : Cursor = record { recs = records 0 xs; text = texts xs; pos = 0 } in
     let stop : Cursor = record { recs = []; text = []; pos = 0 + length (texts xs) } in
     let fr : Front xs start stop = record { recs = sym (append-nil (records 0 xs)); text = sym (append-nil (texts xs)); pos = refl } in
-    rw (e, header-complete 1 20 1024 32768 (length xs) (records 0 xs) (texts xs) (omega arith) k (h .count) (omega arith) (h .text) (omega (arith, h .count, h .text)),
-    statements-back (2 * length (records 0 xs) + 2) 0 d start stop fr (omega (arith, h .text)) (omega (arith, h .count)) (h .blocks) (omega (arith, h .nested)) (empty-stops stop refl) (omega arith),
-    ended-complete stop refl refl)
+    rw (
+      e,
+      header-complete 1 20 1024 32768 (length xs) (records 0 xs) (texts xs) (omega arith) k (h .count) (omega arith) (h .text) (omega (arith, h .count, h .text)),
+      statements-back (2 * length (records 0 xs) + 2) 0 d start stop fr (omega (arith, h .text)) (omega (arith, h .count)) (h .blocks) (omega (arith, h .nested)) (empty-stops stop refl) (omega arith),
+      ended-complete stop refl refl,
+    )
 
 -- ---- the theorems
 

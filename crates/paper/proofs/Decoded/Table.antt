@@ -153,7 +153,7 @@ entry-read d k at x at₁ n at₂ v at₃ s at₄ g l e₁ e₂ h i j =
     let f₃ : at .pos ≡ x .label = sym p₁ ∙ sym (h .placed) in
     let f₅ : figure (at .pos + length (name-text n)) (value-content v) ≡ x .value = ap (λ p. figure p (value-content v)) (sym p₂) ∙ i .figured in
     let bytes : row-bytes (at .pos) (value-row d n v) ≡ raw-bytes 0 x =
-        ap (raw-bytes 0) (same-raw {x = make-raw (value-kind v) d (at .pos) m (figure (at .pos + length (name-text n)) (value-content v)) 0} {y = x} (i .kinded) (sym e₁) f₃ (i .spanned) f₅ (sym z)) in
+    ap (raw-bytes 0) (same-raw {x = make-raw (value-kind v) d (at .pos) m (figure (at .pos + length (name-text n)) (value-content v)) 0} {y = x} (i .kinded) (sym e₁) f₃ (i .spanned) f₅ (sym z)) in
     record {
       front = rw (value-rows-is d n v) (front-++ (front-++ (front-one g (h .took) (i .took) bytes) (i .below)) (j .front));
       sized = rw (value-rows-is d n v) (simp length-append (omega (arith, i .spanned, j .sized)));
@@ -269,13 +269,13 @@ table-sound b =
 abbrev value-reader : ℕ → ℕ → Raw → Cursor → Option (Value × Cursor)
 value-reader f d x at =
     if eqb (x .first) 0
-        then (do
-          _ ← require (eqb (x .value) 0)
-          (c, at) ← entries-at f (suc d) (x .span - 1) at
-          some (component c, at))
-        else (do
-          (b, at) ← basic-at f in-table d (x .first) (x .span) (x .value) at
-          some (basic b, at))
+    then (do
+      _ ← require (eqb (x .value) 0)
+      (c, at) ← entries-at f (suc d) (x .span - 1) at
+      some (component c, at))
+    else (do
+      (b, at) ← basic-at f in-table d (x .first) (x .span) (x .value) at
+      some (basic b, at))
 
 entry-complete : (f d k : ℕ) (n : Name) (v : Value) (s : Store) {at at₁ at₂ at₃ after : Cursor} (x : Raw) → Record 0 x at at₁ → x .second ≡ d → d ≤ 32 → 1 ≤ x .span → x .span ≤ suc k
     → Took (name-text n) at₁ at₂ → x .label ≡ at₁ .pos → IsName n → value-reader f d x at₂ ≡ some (v, at₃) → entries-at f d (suc k - x .span) at₃ ≡ some (s, after)
@@ -417,9 +417,13 @@ table-complete b s h =
     let start : Cursor = record { recs = records 0 xs; text = texts xs; pos = 0 } in
     let stop : Cursor = record { recs = []; text = []; pos = 0 + length (texts xs) } in
     let fr : Front xs start stop = record { recs = sym (append-nil (records 0 xs)); text = sym (append-nil (texts xs)); pos = refl } in
-    rw (e, header-complete 2 16 1024 16384 (length xs) (records 0 xs) (texts xs) (omega arith) k (h .nodes) (omega arith) (h .text) (omega (arith, h .nodes, h .text)),
-    entries-complete (2 * length (records 0 xs) + 2) 1 s start stop fr (omega (arith, h .text)) (omega (arith, h .nodes)) (store-named s (h .store)) (h .depth) (omega arith),
-    ended-complete stop refl refl, store-distinct s (h .store))
+    rw (
+      e,
+      header-complete 2 16 1024 16384 (length xs) (records 0 xs) (texts xs) (omega arith) k (h .nodes) (omega arith) (h .text) (omega (arith, h .nodes, h .text)),
+      entries-complete (2 * length (records 0 xs) + 2) 1 s start stop fr (omega (arith, h .text)) (omega (arith, h .nodes)) (store-named s (h .store)) (h .depth) (omega arith),
+      ended-complete stop refl refl,
+      store-distinct s (h .store),
+    )
 
 -- ---- the theorems
 

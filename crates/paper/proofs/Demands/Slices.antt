@@ -116,9 +116,11 @@ pub runs-sizes : (list start output work₁ work₂ : List ℕ) → let r = runs
     (length (r .output) ≡ length output) × (length (cleared (r .answer) work₁) ≡ length work₁) × (length (cleared (r .answer) work₂) ≡ length work₂)
 unfolding runs
 runs-sizes list start output work₁ work₂ =
-    let k = run-lent list start (length output) (length work₁) (length work₂) in
-    (written-length _ output (fits 32792 (length output) k (λ l. l .0) (run-gives list start (length output) (length work₁) (length work₂)) table-fit),
-    cleared-length work₁ k (λ l. l .1 .0), cleared-length work₂ k (λ l. l .1 .1 .0))
+    let k = run-lent list start (length output) (length work₁) (length work₂) in (
+      written-length _ output (fits 32792 (length output) k (λ l. l .0) (run-gives list start (length output) (length work₁) (length work₂)) table-fit),
+      cleared-length work₁ k (λ l. l .1 .0),
+      cleared-length work₂ k (λ l. l .1 .1 .0),
+    )
 
 pub main-sizes : (whole output : List ℕ) → length ((takes-main whole output) .output) ≡ length output
 unfolding takes-main
@@ -128,9 +130,12 @@ pub resolves-sizes : (source output work₁ work₂ work₃ : List ℕ) → let 
     (length (r .output) ≡ length output) × (length (cleared (r .answer) work₁) ≡ length work₁) × (length (cleared (r .answer) work₂) ≡ length work₂) × (length (cleared (r .answer) work₃) ≡ length work₃)
 unfolding resolves
 resolves-sizes source output work₁ work₂ work₃ =
-    let k = resolve-lent source (length output) (length work₁) (length work₂) (length work₃) in
-    (written-length _ output (fits 32792 (length output) k (λ l. l .0) (resolve-gives source (length output) (length work₁) (length work₂) (length work₃)) table-fit),
-    cleared-length work₁ k (λ l. l .1 .0), cleared-length work₂ k (λ l. l .1 .1 .0), cleared-length work₃ k (λ l. l .1 .1 .1 .0))
+    let k = resolve-lent source (length output) (length work₁) (length work₂) (length work₃) in (
+      written-length _ output (fits 32792 (length output) k (λ l. l .0) (resolve-gives source (length output) (length work₁) (length work₂) (length work₃)) table-fit),
+      cleared-length work₁ k (λ l. l .1 .0),
+      cleared-length work₂ k (λ l. l .1 .1 .0),
+      cleared-length work₃ k (λ l. l .1 .1 .1 .0),
+    )
 
 -- ---- numbers 9 and 10
 
@@ -149,6 +154,7 @@ run-9 list start = (to, back (block-of list) refl)
         let f : (or-refused 10 (table-of start) >>= λ s. run (steps d) s >>= λ t. ok (table t)) ≡ refused 9 0 = rw (steps-complete list d hd) at e in
         let l = gives-refused (past-9 start d list hd) f in
         omega arith
+
     back : (o : Option Block) → block-of list ≡ o → ((d : Block) → IsStepList list d → ⊥) → run-rest list start ≡ refused 9 0
     back none e h = rw e
     back (some d) e h = absurd (h d (found-some (block-sound list) e))
@@ -163,6 +169,7 @@ run-10 list start d hd = (to, back (table-of start) refl)
         let f : (run (steps d) s >>= λ t. ok (table t)) ≡ refused 10 0 = rw (steps-complete list d hd, table-complete start s hs) at e in
         let l = gives-refused (run-tabled (λ n. 10 < n) (λ n q. omega (arith, q .0)) d s (hd .blocks) (of-table hs)) f in
         omega arith
+
     back : (o : Option Store) → table-of start ≡ o → ((s : Store) → IsTable start s → ⊥) → run-rest list start ≡ refused 10 0
     back none e h = rw (steps-complete list d hd, e)
     back (some s) e h = absurd (h s (found-some (table-sound start) e))

@@ -10,11 +10,12 @@ use lib.ListN.{length, take, drop, getD, length-append, length-drop, drop-of-len
 use lib.Seq.{drop-cons, drop-drop}
 use lib.Dec.{leb, ltb, eqb, eqb·zero-suc, eqb·suc-suc}
 use borrow.Author.Tests.{lt-ltb, le-leb, lt-leb, eq-eqb, ne-eqb}
+use Rattle.paper.specs.Bytes.{empty}
 use Rattle.paper.specs.Maybe.{_>>=_, require}
 use Rattle.paper.specs.Syntax.{Name, Path}
 use Rattle.paper.specs.Tokens.{reserved, member}
 use Rattle.paper.specs.Scanner.{scan}
-use Rattle.paper.specs.Decoder.{Cursor, Raw, number-of, raw-of, record-at, field, one-name, name-of, names-of, path-of, long-of, empty}
+use Rattle.paper.specs.Decoder.{Cursor, Raw, number-of, raw-of, record-at, field, one-name, name-of, names-of, path-of, long-of}
 use Rattle.paper.proofs.Decoded.Parts.{Reads, Exact, exact-raw, raw-bytes, Narrow, length-little}
 use Rattle.paper.proofs.Laws.Found.{Found, nothing, found}
 
@@ -87,7 +88,6 @@ unfolding record-at cursor _>>=_
 record-here w recs text i p h l = rw (raw-is w recs i h l)
 
 empty-drop : (s : List ℕ) (i : ℕ) → i ≤ length s → empty (drop i s) ≡ eqb i (length s)
-unfolding empty
 empty-drop [] zero l = refl
 empty-drop [] (suc i) l = absurd (omega arith)
 empty-drop (b ∷ s) zero l = sym (eqb·zero-suc (length s))

@@ -122,14 +122,14 @@ mutual
 unfoldable pub basic-body : Form → (ℕ → ℕ → Cursor → Option (Basics × Cursor)) → ℕ → ℕ → ℕ → ℕ → Cursor → Option (Basic × Cursor)
 basic-body form E d k m v at =
     if eqb k 7
-        then (do
-          _ ← require (eqb v 0)
-          _ ← require (leb d (form .top))
-          (bs, at) ← E (suc d) (m - 1) at
-          some (vector bs, at))
-        else (do
-          _ ← require (eqb m 1)
-          leaf k v at)
+    then (do
+      _ ← require (eqb v 0)
+      _ ← require (leb d (form .top))
+      (bs, at) ← E (suc d) (m - 1) at
+      some (vector bs, at))
+    else (do
+      _ ← require (eqb m 1)
+      leaf k v at)
 
 unfoldable pub element-body : Form → (ℕ → ℕ → ℕ → ℕ → Cursor → Option (Basic × Cursor)) → (ℕ → ℕ → Cursor → Option (Basics × Cursor)) → ℕ → ℕ → Cursor → Option (Basics × Cursor)
 element-body form B E d k at = do
@@ -212,13 +212,13 @@ elements-some form d k at =
 unfoldable pub entry-value : (ℕ → ℕ → ℕ → ℕ → Cursor → Option (Basic × Cursor)) → (ℕ → ℕ → Cursor → Option (Store × Cursor)) → ℕ → Raw → Cursor → Option (S.Value × Cursor)
 entry-value B E d x at =
     if eqb (x .first) 0
-        then (do
-          _ ← require (eqb (x .value) 0)
-          (c, at) ← E (suc d) (x .span - 1) at
-          some (component c, at))
-        else (do
-          (b, at) ← B d (x .first) (x .span) (x .value) at
-          some (S.basic b, at))
+    then (do
+      _ ← require (eqb (x .value) 0)
+      (c, at) ← E (suc d) (x .span - 1) at
+      some (component c, at))
+    else (do
+      (b, at) ← B d (x .first) (x .span) (x .value) at
+      some (S.basic b, at))
 
 unfoldable pub entry-body : (ℕ → ℕ → ℕ → ℕ → Cursor → Option (Basic × Cursor)) → (ℕ → ℕ → Cursor → Option (Store × Cursor)) → ℕ → ℕ → Cursor → Option (Store × Cursor)
 entry-body B E d k at = do
@@ -326,11 +326,11 @@ value-body B P d x at =
       _ ← plain 8 x
       (l, at) ← field path-of (x .value) at
       some (link (x .place) l, at)) else (do
-      _ ← plain 1 x
-      _ ← require (eqb (x .value) 0)
-      (ps, at) ← P d at
-      _ ← require (some-prototype ps)
-      some (extends (x .place) ps, at))
+        _ ← plain 1 x
+        _ ← require (eqb (x .value) 0)
+        (ps, at) ← P d at
+        _ ← require (some-prototype ps)
+        some (extends (x .place) ps, at))
 
 unfoldable pub prototype-body : (ℕ → Cursor → Option (Block × Cursor)) → (ℕ → Cursor → Option (Prototypes × Cursor)) → ℕ → Cursor → Option (Prototypes × Cursor)
 prototype-body S P d at = do
@@ -341,16 +341,16 @@ prototype-body S P d at = do
     (l, at) ← field path-of (x .label) at
     (ps, at) ← P d at
     some (named (x .place) l ps, at)) else
-    if eqb (x .first) 3 then (do
-      _ ← bare 3 x
-      _ ← require (ltb d 32)
-      (b, at) ← S (suc d) at
-      (y, at) ← record-at 4 at
-      _ ← bare 4 y
-      (ps, at) ← P d at
-      some (block b ps, at)) else (do
-      _ ← bare 5 x
-      some (εᴾ, at))
+      if eqb (x .first) 3 then (do
+        _ ← bare 3 x
+        _ ← require (ltb d 32)
+        (b, at) ← S (suc d) at
+        (y, at) ← record-at 4 at
+        _ ← bare 4 y
+        (ps, at) ← P d at
+        some (block b ps, at)) else (do
+          _ ← bare 5 x
+          some (εᴾ, at))
 
 mutual
   unfolding statements-at

@@ -14,9 +14,9 @@ use borrow.Author.Tests.{ltb-true}
 use Rattle.paper.specs.Bytes.{if_then_else_, is, among, at}
 use Rattle.paper.specs.Answer.{Answer, ok, refused, _>>=_, demand}
 use Rattle.paper.specs.Syntax.{Path, Basic, Basics, Block, Value, Prototypes}
-use Rattle.paper.specs.Tokens.{Token, name, literal, mark, end, starts, goes-on, digit}
-use Rattle.paper.specs.Scanner.{Scanned, token, fault, Here, past, gap, skip, scan, found, next, number, named, text, quoted, whole, fraction, exponent, span}
-use Rattle.paper.specs.Reader.{is-name, is-word, is-mark, is-end, expect, expect-word, names, path, word, basic-at, basics, statements, value, prototypes, read}
+use Rattle.paper.specs.Tokens.{Token, name, literal, mark, end, starts, goes-on, digit, Here, past, is-name, is-word, is-mark, is-end}
+use Rattle.paper.specs.Scanner.{Scanned, token, fault, gap, skip, scan, found, next, number, named, text, quoted, whole, fraction, exponent, span}
+use Rattle.paper.specs.Reader.{expect, expect-word, names, path, word, basic-at, basics, statements, value, prototypes, read}
 use Rattle.paper.proofs.Laws.Answers.{if-case, All, holds, numbered, all-bind, all-demand}
 
 abbrev left : Here → ℕ

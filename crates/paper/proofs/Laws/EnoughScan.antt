@@ -8,8 +8,8 @@ use mathlib.Core.Option.{Option, none, some}
 use lib.ListN.{length, drop, length-drop}
 use Rattle.paper.specs.Bytes.{if_then_else_, is, among, between, at}
 use Rattle.paper.specs.Answer.{Answer, ok, refused}
-use Rattle.paper.specs.Tokens.{blank, octal}
-use Rattle.paper.specs.Scanner.{Here, past, gap, skip, meant, quoted, escaped}
+use Rattle.paper.specs.Tokens.{blank, octal, Here, past, escaped}
+use Rattle.paper.specs.Scanner.{gap, skip, meant, quoted}
 use Rattle.paper.proofs.Laws.Answers.{if-case}
 
 gap-end : gap [] ≡ some 0

@@ -10,10 +10,10 @@ use lib.Seq.{take-take, getD-take, take-nil, drop-nil, length-take-le, take-leng
 use lib.IntN.{ℤ}
 use lib.Dec.{T, leb, ltb, eqb, lit≤}
 use borrow.Author.Tests.{ltb-true, ltb-false, leb-true, eqb-true, eqb-false, lt-ltb, le-leb, ne-eqb}
-use Rattle.paper.specs.Bytes.{if_then_else_, is, among, between, at}
+use Rattle.paper.specs.Bytes.{if_then_else_, is, among, between, at, empty}
 use Rattle.paper.specs.Syntax.{Basic, integer, decimal, string}
-use Rattle.paper.specs.Tokens.{Token, name, literal, mark, end, in-range, starts, goes-on, digit}
-use Rattle.paper.specs.Scanner.{Scanned, token, fault, scan, number, named, text, quoted, digits-after, sign, whole, fraction, exponent, valued, span}
+use Rattle.paper.specs.Tokens.{Token, name, literal, mark, end, in-range, starts, goes-on, digit, valued}
+use Rattle.paper.specs.Scanner.{Scanned, token, fault, scan, number, named, text, quoted, digits-after, sign, whole, fraction, exponent, span}
 use Rattle.paper.proofs.Laws.Answers.{if-case}
 
 -- ---- what a token can be
@@ -30,12 +30,12 @@ end₃ s = end₂ s + exponent (drop (end₂ s) s)
 
 pub record NameHere (s : List ℕ) (n : ℕ) : Type 0 where
   pub begun : starts (at s 0) ≡ true
-  pub there : eqb (at s 0) 256 ≡ false
+  pub there : empty s ≡ false
   pub all : n ≡ span goes-on s
   pub short : n ≤ 255
 
 pub record DecimalHere (s : List ℕ) (m : ℕ) : Type 0 where
-  pub there : eqb (at s 0) 256 ≡ false
+  pub there : empty s ≡ false
   pub no-name : starts (at s 0) ≡ false
   pub begun : (digit (at s 0) || is "-" (at s 0)) ≡ true
   pub some-digits : eqb (whole s) 0 ≡ false
@@ -204,6 +204,7 @@ exponent-take (suc k) s h = go (among "eE" (at s 0)) refl
     before : (n : ℕ) (s : List ℕ) (m : ℕ) → digits-after n s ≡ m → 1 ≤ m → (c : Bool) → ltb n m ≡ c → n < m
     before n s m l p true e = ltb-true n m e
     before n s m l p false e = let b = ltb-false n m e in let z = digits-zero-or n s (omega arith) in absurd (omega arith)
+
     go : (c : Bool) → among "eE" (at s 0) ≡ c → exponent (take (suc k) s) ≡ suc k
     go true e =
         let g = sign (among "+-") (at s 1) in
@@ -214,7 +215,13 @@ exponent-take (suc k) s h = go (among "eE" (at s 0)) refl
 
 -- ---- once more
 
-span-starts : (s : List ℕ) → starts (at s 0) ≡ true → eqb (at s 0) 256 ≡ false → 1 ≤ span goes-on s
+-- some bytes from the front of what is not empty are not nothing
+some-taken : (n : ℕ) (s : List ℕ) → 1 ≤ n → empty s ≡ false → empty (take n s) ≡ false
+some-taken zero s l e = absurd (omega arith)
+some-taken (suc n) [] l e = e
+some-taken (suc n) (b ∷ s) l e = refl
+
+span-starts : (s : List ℕ) → starts (at s 0) ≡ true → empty s ≡ false → 1 ≤ span goes-on s
 unfolding span goes-on
 span-starts [] e x = absurd (true≢false x)
 span-starts (b ∷ s) e x = rw (e, span) (omega arith)
@@ -230,7 +237,7 @@ name-again s n h =
     let c : span goes-on (take n s) ≡ n = span-take goes-on n s ∙ (omega arith) in
     let w : length (take n s) ≡ n = length-take-le n s l in
     let t : take n (take n s) ≡ take n s = take-take n n s (omega arith) in
-    rw (at-take n 0 s p, h .there, h .begun, c, le-leb n 255 (h .short), t, w)
+    rw (some-taken n s p (h .there), at-take n 0 s p, h .begun, c, le-leb n 255 (h .short), t, w)
 
 digits-le : (n : ℕ) (s : List ℕ) → digits-after n s ≤ length s
 digits-le n s = go (span digit (drop n s)) refl
@@ -278,7 +285,7 @@ decimal-again s m h =
     let k : length (take m s) ≡ m = length-take-le m s l in
     let o : at (take m s) m ≡ 256 = List·getD-eq-default (take m s) 256 (omega arith) in
     let t : take m (take m s) ≡ take m s = take-take m m s (omega arith) in
-    rw (at-take m 0 s (omega arith), h .there, h .no-name, h .begun, w, f, x, q₂, h .some-digits, o, out-of-class .0, h .more, le-leb m 4095 (h .short), t, k)
+    rw (some-taken m s (omega arith) (h .there), at-take m 0 s (omega arith), h .no-name, h .begun, w, f, x, q₂, h .some-digits, o, out-of-class .0, h .more, le-leb m 4095 (h .short), t, k)
 
 -- ---- a token that is all of its text, by its test
 

@@ -10,13 +10,13 @@ use mathlib.Core.Option.{Option, none, some}
 use lib.ListN.{length, take, drop, length-drop}
 use lib.Dec.{T, leb, ltb, eqb, lit≤}
 use borrow.Author.Tests.{ltb-true, leb-true, not-true}
-use Rattle.paper.specs.Bytes.{if_then_else_, at}
+use Rattle.paper.specs.Bytes.{if_then_else_, at, empty}
 use Rattle.paper.specs.Answer.{Answer, ok, refused, _>>=_, demand}
 use Rattle.paper.specs.Syntax.{Path, Basic, boolean, null, integer, decimal, string, reference, vector, Basics, εⱽ, _∷ⱽ_, Block, εᴮ, _∷ᴮ_, Statement, assign, Value, basic, link, extends, Prototypes, εᴾ, named, block}
-use Rattle.paper.specs.Tokens.{Token, name, literal, mark, end, reserved, member}
-use Rattle.paper.specs.Scanner.{Scanned, token, fault, Here, past, gap, skip, scan, found, next}
+use Rattle.paper.specs.Tokens.{Token, name, literal, mark, end, reserved, member, Here, past, is-name, is-word, is-mark, is-end, spelling}
+use Rattle.paper.specs.Scanner.{Scanned, token, fault, gap, skip, scan, found, next}
 use Rattle.paper.specs.Grammar.{brackets, brackets-in, openings, openings-a, openings-v, openings-p, Some}
-use Rattle.paper.specs.Reader.{is-name, is-word, is-mark, is-end, spelling, expect, expect-word, names, path, word, basic-at, basics, statements, value, prototypes, read}
+use Rattle.paper.specs.Reader.{expect, expect-word, names, path, word, basic-at, basics, statements, value, prototypes, read}
 use Rattle.paper.specs.Layout.{texts}
 use Rattle.paper.specs.Steps.{steps}
 use Rattle.paper.specs.StepLayout.{all-rows, step-list, listed}
@@ -69,7 +69,7 @@ skip-in N (suc f) h i = go (gap (h .rest)) refl (λ h i. skip-in N f h i)
     go (some zero) e again = rw (e, skip) (gives i)
     go (some (suc n)) e again = rw (e, skip) (again (past (suc n) h) (past-in N (suc n) h i))
 
-some-left : (s : List ℕ) → eqb (at s 0) 256 ≡ false → 1 ≤ length s
+some-left : (s : List ℕ) → empty s ≡ false → 1 ≤ length s
 some-left [] e = absurd (true≢false e)
 some-left (b ∷ s) e = omega arith
 

@@ -11,10 +11,10 @@ use lib.ListN.{length}
 use Rattle.paper.specs.Bytes.{if_then_else_, bytes}
 use Rattle.paper.specs.Answer.{Answer, ok, refused, _>>=_, demand}
 use Rattle.paper.specs.Syntax.{Path, Basic, boolean, null, integer, decimal, string, reference, vector, Basics, εⱽ, _∷ⱽ_, Block, εᴮ, _∷ᴮ_, Statement, assign, Value, basic, link, extends, Prototypes, εᴾ, named, block}
-use Rattle.paper.specs.Tokens.{Token, name, literal, mark, end, reserved, member}
-use Rattle.paper.specs.Scanner.{Here, next}
+use Rattle.paper.specs.Tokens.{Token, name, literal, mark, end, reserved, member, Here, is-name, is-word, is-mark, is-end, spelling}
+use Rattle.paper.specs.Scanner.{next}
 use Rattle.paper.specs.Grammar.{Spelt, sign, word, then-names, spell-path, then-basics, spell-basic, spell-basics, target, then-prototypes, spell, spell-statement, spell-value, spell-prototypes, plain, Free, Some, Formed}
-use Rattle.paper.specs.Reader.{is-name, is-word, is-mark, is-end, spelling, expect, expect-word, names, path, basic-at, basics, statements, value, prototypes, read}
+use Rattle.paper.specs.Reader.{expect, expect-word, names, path, basic-at, basics, statements, value, prototypes, read}
 use Rattle.paper.specs.Reader as G
 use Rattle.paper.proofs.Laws.Answers.{if-case}
 use Rattle.paper.proofs.ReadExactly.Complete.{mark-self, word-self, name-free, name-no-word}

@@ -10,11 +10,11 @@ use lib.Dec.{leb}
 use borrow.Author.Tests.{leb-true, leb-false}
 use Rattle.paper.specs.Answer.{Answer, ok, refused, _>>=_, demand}
 use Rattle.paper.specs.Syntax.{Path, Basic, boolean, null, integer, decimal, string, reference, vector, Basics, εⱽ, _∷ⱽ_, Block, εᴮ, _∷ᴮ_, Statement, assign, Value, basic, link, extends, Prototypes, εᴾ, named, block}
-use Rattle.paper.specs.Tokens.{Token, end}
-use Rattle.paper.specs.Scanner.{Here, next}
+use Rattle.paper.specs.Tokens.{Token, end, Here, is-end}
+use Rattle.paper.specs.Scanner.{next}
 use Rattle.paper.specs.Grammar.{openings, Spelt, spell, plain, says, Formed, Free, Some, Legal}
 use Rattle.paper.specs.Grammar as W
-use Rattle.paper.specs.Reader.{statements, read, is-end}
+use Rattle.paper.specs.Reader.{statements, read}
 use Rattle.paper.specs.WellFormed.{AreNames, IsPath, IsBasic, AreBasic, IsBlock, IsStatement, IsValueOf, ArePrototypes}
 use Rattle.paper.proofs.Laws.Gives.{Gives, gives, refuses, gives-bind, gives-demand, gives-ok, gives-refused}
 use Rattle.paper.proofs.Legal.Read.{WellRead, read-well}
@@ -108,6 +108,7 @@ reads-exactly source b = (to, back)
         let w = read-well source b e in
         let s = to-sequence source b (read-sound source b e) in
         record { size = gives-ok (small-enough source) e .small; legal = legal b (w .blocks); nested = w .nested; list = s .list; scanned = s .is; spelt = s .fits }
+
     back : Describes source b → read source ≡ ok b
     back d = read-complete source b (d .size) (d .legal) (d .nested) (of-sequence source (d .list) (spell b) (d .scanned) (d .spelt))
 
@@ -220,10 +221,21 @@ refused-rightly source p e = go (refused-at source 3 p e 1-not-3)
     by s (none-there w) = absurd (no-3 (gives-refused (next-lexical (s .mid)) w) refl)
     by s (a-token {t = t} {h = h} {after = a} g w q) =
         record {
-          before = s .before; token = t; mid = s .mid; h = h; after = a; are = s .are; is = w; place = q;
-          would-be = s .would-be; rest = s .rest; formed = s .formed; begins = s .begins;
+          before = s .before;
+          token = t;
+          mid = s .mid;
+          h = h;
+          after = a;
+          are = s .are;
+          is = w;
+          place = q;
+          would-be = s .would-be;
+          rest = s .rest;
+          formed = s .formed;
+          begins = s .begins;
           goes-on-in-none = λ b us l k. cannot-continue source p e (s .before) (us ++ (end ∷ [])) t (s .mid) h a (s .are) w q b l (ap (λ l. l ++ (end ∷ [])) k ∙ append-assoc (s .before) (t ∷ us) (end ∷ []));
           ends-none = λ z b l k. cannot-continue source p e (s .before) [] t (s .mid) h a (s .are) w q b l (ap (λ l. l ++ (end ∷ [])) k ∙ ap (λ i. s .before ++ (i ∷ [])) (sym z));
         }
+
     go : Before source 3 p → Rightly source p
     go s = by s (s .shows)

@@ -8,10 +8,9 @@ use mathlib.Core.Option.{Option, none, some}
 use lib.ListN.{length}
 use Rattle.paper.specs.Answer.{Answer, ok, refused, _>>=_}
 use Rattle.paper.specs.Syntax.{Path, Basic, boolean, null, integer, decimal, string, reference, vector, Basics, εⱽ, _∷ⱽ_, Block, εᴮ, _∷ᴮ_, Statement, assign, Value, basic, link, extends, Prototypes, εᴾ, named, block}
-use Rattle.paper.specs.Tokens.{Token, name, literal, mark, end}
-use Rattle.paper.specs.Scanner.{Here, next}
+use Rattle.paper.specs.Tokens.{Token, name, literal, mark, end, Here, is-end}
+use Rattle.paper.specs.Scanner.{next}
 use Rattle.paper.specs.Grammar.{Spelt, sign, word, then-names, spell-path, then-basics, spell-basic, spell-basics, target, then-prototypes, spell, spell-statement, spell-value, spell-prototypes}
-use Rattle.paper.specs.Reader.{is-end}
 use Rattle.paper.proofs.Laws.Answers.{All, holds, numbered}
 use Rattle.paper.proofs.Laws.Enough.{After, next-good}
 use Rattle.paper.proofs.ReadExactly.Sequence.{tokens-from, tokens, start, Sits, Fits, Reads, done, more, Tokens}
@@ -154,6 +153,7 @@ until (suc f) at ts xs e g = by (next at) refl (λ after ts xs. until f after ts
     last t h after q z [] [] w g = record { out = at; h = h; after = after; reads = done; ended = q ∙ ap (λ t. ok (t, h, after)) z }
     last t h after q z [] (x ∷ xs) w g = absurd g
     last t h after q z (y ∷ ts) xs w g = let c : _≡_ {A = ℕ} 0 1 = cc in absurd (omega arith)
+
     first : (t : Token) (h after : Here) → next at ≡ ok (t, h, after) → (m : Answer (List (Token × ℕ))) → tokens-from f after ≡ m
         → ((after : Here) (ts : List (Token × ℕ)) (xs : List Spelt) → tokens-from f after ≡ ok ts → Fits ts xs → Until after xs)
         → (ts : List (Token × ℕ)) (xs : List Spelt) → (m >>= λ us. ok ((t, h .place) ∷ us)) ≡ ok ts → Fits ts xs → Until at xs
@@ -167,6 +167,7 @@ until (suc f) at ts xs e g = by (next at) refl (λ after ts xs. until f after ts
         let s : Sits (x .1) (h .place) = subst (λ z. Sits (x .1) (z .1)) (sym j) (g .1) in
         let u = again after ts xs (w ∙ ap ok i) (g .2) in
         record { out = u .out; h = u .h; after = u .after; reads = more (q ∙ ap (λ t. ok (t, h, after)) k) s (u .reads); ended = u .ended }
+
     by : (m : Answer (Token × Here × Here)) → next at ≡ m → ((after : Here) (ts : List (Token × ℕ)) (xs : List Spelt) → tokens-from f after ≡ ok ts → Fits ts xs → Until after xs) → Until at xs
     by (refused n p) q again = absurd (clash (rw q at e))
     by (ok (t, h, after)) q again = end-or (is-end t) refl

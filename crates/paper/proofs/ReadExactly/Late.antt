@@ -11,9 +11,9 @@ use lib.ListN.{length}
 use Rattle.paper.specs.Bytes.{if_then_else_}
 use Rattle.paper.specs.Answer.{Answer, ok, refused, _>>=_, demand}
 use Rattle.paper.specs.Syntax.{Path, Basic, Basics, Block, Value, Prototypes}
-use Rattle.paper.specs.Tokens.{Token, name, literal, mark, end}
-use Rattle.paper.specs.Scanner.{Scanned, token, fault, Here, past, gap, skip, scan, found, next}
-use Rattle.paper.specs.Reader.{is-name, is-word, is-mark, is-end, spelling, expect, expect-word, names, path, word, basic-at, basics, statements, value, prototypes, read}
+use Rattle.paper.specs.Tokens.{Token, name, literal, mark, end, Here, past, is-name, is-word, is-mark, is-end, spelling}
+use Rattle.paper.specs.Scanner.{Scanned, token, fault, gap, skip, scan, found, next}
+use Rattle.paper.specs.Reader.{expect, expect-word, names, path, word, basic-at, basics, statements, value, prototypes, read}
 use Rattle.paper.proofs.Laws.Answers.{if-case}
 use Rattle.paper.proofs.Laws.Enough.{ScanGood, ended, some-bytes, faulty, scan-good}
 use Rattle.paper.proofs.Laws.Gives.{Gives, gives, refuses, gives-bind, gives-ok}

@@ -4,8 +4,8 @@ use native.Mathlib.Omega.{arith}
 use mathlib.Core.Path.{_≡_, refl, sym, _∙_, ap, subst}
 use mathlib.Core.List.{List, [], _∷_, _++_, append-assoc}
 use Rattle.paper.specs.Answer.{Answer, ok, refused}
-use Rattle.paper.specs.Tokens.{Token}
-use Rattle.paper.specs.Scanner.{Here, next}
+use Rattle.paper.specs.Tokens.{Token, Here}
+use Rattle.paper.specs.Scanner.{next}
 use Rattle.paper.proofs.ReadExactly.Exact.{Rightly}
 use Rattle.paper.proofs.ReadExactly.Sequence.{Passes, none-yet, and-then}
 

@@ -58,4 +58,3 @@ abbrev mutual
   bare-prototypes εᴾ = εᴾ
   bare-prototypes (named p r ps) = named 0 r (bare-prototypes ps)
   bare-prototypes (block b ps) = block (bare b) (bare-prototypes ps)
-

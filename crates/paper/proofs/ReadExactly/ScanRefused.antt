@@ -7,10 +7,9 @@ use mathlib.Core.List.{List, [], _∷_}
 use mathlib.Core.Option.{Option, none, some}
 use lib.ListN.{length}
 use Rattle.paper.specs.Answer.{Answer, ok, refused, _>>=_}
-use Rattle.paper.specs.Tokens.{Token, name, literal, mark, end}
-use Rattle.paper.specs.Scanner.{Scanned, token, fault, Here, past, gap, skip, scan, found, next, number, text}
+use Rattle.paper.specs.Tokens.{Token, name, literal, mark, end, Here, past, is-end}
+use Rattle.paper.specs.Scanner.{Scanned, token, fault, gap, skip, scan, found, next, number, text}
 use Rattle.paper.specs.Scanner as Lex
-use Rattle.paper.specs.Reader.{is-end}
 use Rattle.paper.proofs.Laws.Answers.{if-case, All, holds, numbered}
 use Rattle.paper.proofs.Laws.Enough.{After, next-good}
 use Rattle.paper.proofs.Laws.Gives.{Gives, gives, refuses, gives-bind, gives-refused}
@@ -78,6 +77,7 @@ refused-apart e = let a : _ ≡ _ = number e in let b : _ ≡ _ = place e in (a,
   where
     number : {X : Type 0} {n p m q : ℕ} → _≡_ {A = Answer X} (refused n p) (refused m q) → n ≡ m
     number e = cc
+
     place : {X : Type 0} {n p m q : ℕ} → _≡_ {A = Answer X} (refused n p) (refused m q) → p ≡ q
     place e = cc
 
@@ -115,6 +115,7 @@ unscanned (suc f) at n p l e = by (next at) refl (λ after. unscanned f after n 
             let i = refused-apart e in
             let u = again after (omega arith) (v ∙ cc (i .0, i .1)) in
             record { before = t ∷ u .before; mid = u .mid; are = and-then w (u .are); is = u .is; number = u .number }
+
         end-or : (c : Bool) → is-end t ≡ c → Unscanned at n p
         end-or true c = let e′ : ok [] ≡ refused n p = rw (w, c, _>>=_) at e in absurd (clash e′)
         end-or false c = let e′ : (tokens-from f after >>= λ us. ok ((t, h .place) ∷ us)) ≡ refused n p = rw (w, c, _>>=_) at e in rest (tokens-from f after) refl e′ c

@@ -7,10 +7,9 @@ use mathlib.Core.List.{List, [], _∷_, _++_}
 use mathlib.Core.Option.{Option, none, some}
 use lib.ListN.{length}
 use Rattle.paper.specs.Answer.{Answer, ok, refused, _>>=_}
-use Rattle.paper.specs.Tokens.{Token, end}
-use Rattle.paper.specs.Scanner.{Here, next}
+use Rattle.paper.specs.Tokens.{Token, end, Here, is-end}
+use Rattle.paper.specs.Scanner.{next}
 use Rattle.paper.specs.Grammar.{Spelt}
-use Rattle.paper.specs.Reader.{is-end}
 
 -- ---- the whole token sequence of a source, each token with its place; or the refusal 2, 4 or 6 of the token that is none
 

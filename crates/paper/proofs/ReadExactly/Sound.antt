@@ -13,10 +13,10 @@ use borrow.Author.Tests.{eqb-true}
 use Rattle.paper.specs.Bytes.{if_then_else_, bytes, same}
 use Rattle.paper.specs.Answer.{Answer, ok, refused, _>>=_, demand}
 use Rattle.paper.specs.Syntax.{Path, Basic, boolean, null, integer, decimal, string, reference, vector, Basics, εⱽ, _∷ⱽ_, Block, εᴮ, _∷ᴮ_, Statement, assign, Value, basic, link, extends, Prototypes, εᴾ, named, block}
-use Rattle.paper.specs.Tokens.{Token, name, literal, mark, end}
-use Rattle.paper.specs.Scanner.{Scanned, token, fault, Here, past, skip, scan, found, next}
+use Rattle.paper.specs.Tokens.{Token, name, literal, mark, end, Here, past, is-name, is-word, is-mark, is-end, spelling}
+use Rattle.paper.specs.Scanner.{Scanned, token, fault, skip, scan, found, next}
 use Rattle.paper.specs.Grammar.{Spelt, sign, word, then-names, spell-path, then-basics, spell-basic, spell-basics, target, then-prototypes, spell, spell-statement, spell-value, spell-prototypes}
-use Rattle.paper.specs.Reader.{is-name, is-word, is-mark, is-end, spelling, expect, expect-word, names, path, basic-at, basics, statements, value, prototypes, read}
+use Rattle.paper.specs.Reader.{expect, expect-word, names, path, basic-at, basics, statements, value, prototypes, read}
 use Rattle.paper.specs.Reader as G
 use Rattle.paper.proofs.Laws.Answers.{if-case}
 use Rattle.paper.proofs.Laws.Gives.{Gives, gives, refuses, gives-bind, gives-demand, gives-ok}

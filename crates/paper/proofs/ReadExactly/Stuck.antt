@@ -12,10 +12,10 @@ use borrow.Author.Tests.{not-true, le-leb}
 use Rattle.paper.specs.Bytes.{if_then_else_, bytes}
 use Rattle.paper.specs.Answer.{Answer, ok, refused, _>>=_, demand}
 use Rattle.paper.specs.Syntax.{Path, Basic, boolean, null, integer, decimal, string, reference, vector, Basics, εⱽ, _∷ⱽ_, Block, εᴮ, _∷ᴮ_, Statement, assign, Value, basic, link, extends, Prototypes, εᴾ, named, block}
-use Rattle.paper.specs.Tokens.{Token, name, literal, mark, end, reserved, member}
-use Rattle.paper.specs.Scanner.{Here, next}
+use Rattle.paper.specs.Tokens.{Token, name, literal, mark, end, reserved, member, Here, is-name, is-word, is-mark, is-end, spelling}
+use Rattle.paper.specs.Scanner.{next}
 use Rattle.paper.specs.Grammar.{Spelt, sign, word, then-names, spell-path, then-basics, spell-basic, spell-basics, target, then-prototypes, spell, spell-statement, spell-value, spell-prototypes, plain, Free, Some, Formed}
-use Rattle.paper.specs.Reader.{is-name, is-word, is-mark, is-end, spelling, expect, expect-word, names, path, basic-at, basics, statements, value, prototypes, read}
+use Rattle.paper.specs.Reader.{expect, expect-word, names, path, basic-at, basics, statements, value, prototypes, read}
 use Rattle.paper.specs.Reader as G
 use Rattle.paper.proofs.Laws.Answers.{if-case}
 use Rattle.paper.proofs.Laws.Enough.{enough}
@@ -512,9 +512,16 @@ begun source n p size e = go (read source) refl (read-tells source size)
   where
     before : Stuck BeginBlock (start source) n p → Before source n p
     before s = record {
-      before = plain (s .before); mid = s .mid; are = passes (s .went); shows = s .shows;
-      would-be = s .so .it; rest = plain (s .so .rest); formed = s .so .formed; begins = ap plain (s .so .eq) ∙ plain-append (s .before) (s .so .rest);
+      before = plain (s .before);
+      mid = s .mid;
+      are = passes (s .went);
+      shows = s .shows;
+      would-be = s .so .it;
+      rest = plain (s .so .rest);
+      formed = s .so .formed;
+      begins = ap plain (s .so .eq) ∙ plain-append (s .before) (s .so .rest);
     }
+
     go : (m : Answer Block) → read source ≡ m → Tells (λ b. Unit {0}) (Stuck BeginBlock (start source)) m → Before source n p
     go (ok b) w (tells h) = let f = sym w ∙ e in let z : _≡_ {A = ℕ} 0 1 = cc in absurd (omega arith)
     go (refused k q) w (stuck s) =
