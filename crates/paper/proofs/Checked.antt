@@ -1,7 +1,7 @@
--- The checked descriptions of document 01 that are marked P, and one proof that the definitions give what each should.
--- Assumes nothing.
+-- Theorem 1, checked: the descriptions of document 01 that are marked P, as one list with one proof, by the valuation functions and by
+-- the steps; and description 13 in its bytes, with its step list's figures. All of it computes. Assumes nothing.
 pub mod Edges
-pub mod Reading
+pub mod Decoding
 use Prim.Native.Nat.{ℕ}
 use Prim.Native.String.{String}
 use mathlib.Core.Path.{_≡_, refl}
@@ -13,7 +13,10 @@ use Rattle.paper.specs.Answer.{Answer, ok, refused, _>>=_}
 use Rattle.paper.specs.Syntax.{integer}
 use Rattle.paper.specs.Store.{Store, ∅, entry, basic, component}
 use Rattle.paper.specs.Meaning.{main}
-use Rattle.paper.specs.Operations.{evaluated, executed, resolved, resolve, translate}
+use Rattle.paper.specs.Layout.{texts}
+use Rattle.paper.specs.Steps.{Step}
+use Rattle.paper.specs.StepLayout.{all-rows, step-list}
+use Rattle.paper.specs.Operations.{evaluated, executed, resolved, translated, resolve}
 use Rattle.paper.proofs.Open.{all}
 
 -- `"x" ≔ 1 ⨾ s`: x is 1, and then s;  `"x" ≔⟨ c ⟩⨾ s`: x is the component c
@@ -30,7 +33,7 @@ pub data Case : Type 0 where
   refuses : String → ℕ → ℕ → Case
   over : Store → String → Store → Case
 
-abbrev cases : List Case
+abbrev pub cases : List Case
 cases =
     refuses "" 19 0
     ∷ refuses "sfConfig 1;" 20 0
@@ -48,34 +51,43 @@ cases =
     ∷ over ("x" ≔ 1 ⨾ ∅) "y x;" ("x" ≔ 1 ⨾ "y" ≔ 1 ⨾ ∅)
     ∷ []
 
-abbrev expected : Case → Answer Store
+abbrev pub expected : Case → Answer Store
 expected (gives d s) = ok s
 expected (refuses d n p) = refused n p
 expected (over s d t) = ok t
 
 -- by the valuation functions, and by the steps
-abbrev by-meaning : Case → Answer Store
-by-meaning (gives d s) = evaluated (bytes d) ∅ >>= main
-by-meaning (refuses d n p) = evaluated (bytes d) ∅ >>= main
-by-meaning (over s d t) = evaluated (bytes d) s
+abbrev pub meant : Case → Answer Store
+meant (gives d s) = evaluated (bytes d) ∅ >>= main
+meant (refuses d n p) = evaluated (bytes d) ∅ >>= main
+meant (over s d t) = evaluated (bytes d) s
 
-abbrev by-steps : Case → Answer Store
-by-steps (gives d s) = resolved (bytes d)
-by-steps (refuses d n p) = resolved (bytes d)
-by-steps (over s d t) = executed (bytes d) s
+abbrev pub stepped : Case → Answer Store
+stepped (gives d s) = resolved (bytes d)
+stepped (refuses d n p) = resolved (bytes d)
+stepped (over s d t) = executed (bytes d) s
 
-pub checked : (map by-meaning cases ≡ map expected cases) × (map by-steps cases ≡ map expected cases)
-unfolding all
-checked = (refl, refl)
+-- description 13, and its table: header, record, text
+abbrev pub thirteen : List ℕ
+thirteen = bytes "sfConfig extends { x 1; }"
 
--- description 13, in bytes
-pub in-bytes : resolve (bytes "sfConfig extends { x 1; }") ≡ ok (
+abbrev pub thirteen-table : List ℕ
+thirteen-table =
     0x02 ∷ 0 ∷ 0 ∷ 0 ∷ 0x2a ∷ 0 ∷ 0 ∷ 0 ∷ 0x01 ∷ 0 ∷ 0 ∷ 0 ∷ 0x18 ∷ 0 ∷ 0 ∷ 0 ∷ 0x02 ∷ 0 ∷ 0 ∷ 0 ∷ 0x28 ∷ 0 ∷ 0 ∷ 0
-    ∷ 0x03 ∷ 0 ∷ 0x01 ∷ 0 ∷ 0 ∷ 0 ∷ 0x01 ∷ 0 ∷ 0x01 ∷ 0 ∷ 0 ∷ 0 ∷ 0 ∷ 0 ∷ 0 ∷ 0 ∷ 0x01 ∷ 0x78 ∷ [])
-unfolding all
-in-bytes = refl
+    ∷ 0x03 ∷ 0 ∷ 0x01 ∷ 0 ∷ 0 ∷ 0 ∷ 0x01 ∷ 0 ∷ 0x01 ∷ 0 ∷ 0 ∷ 0 ∷ 0 ∷ 0 ∷ 0 ∷ 0
+    ∷ 0x01 ∷ 0x78 ∷ []
 
--- and the length of its step list
-pub in-steps : translate (bytes "sfConfig extends { x 1; }") >>= (λ b. ok (length b)) ≡ ok 137
+-- how many steps, how many bytes of text, and how many bytes in all
+abbrev pub figures-of : Answer (List Step) → Answer (ℕ × ℕ × ℕ)
+figures-of a = a >>= λ is. ok (length (all-rows is), length (texts (all-rows is)), length (step-list is))
+
+pub record Checked : Type 0 where
+  pub by-meaning : map meant cases ≡ map expected cases
+  pub by-steps : map stepped cases ≡ map expected cases
+  pub in-bytes : resolve thirteen ≡ ok thirteen-table
+  -- "Its step list has 5 steps, 13 text bytes, 137 in all."
+  pub figures : figures-of (translated thirteen) ≡ ok (5, 13, 137)
+
+pub checked : Checked
 unfolding all
-in-steps = refl
+checked = record { by-meaning = refl; by-steps = refl; in-bytes = refl; figures = refl }

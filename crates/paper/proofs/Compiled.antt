@@ -1,5 +1,5 @@
--- The steps of a block do what the block means: `run-steps`. Assumes nothing.
-use Prim.Native.Nat.{ℕ}
+-- Theorem 2, compiled: for every block and every store, running the steps is evaluating the block, with the same refusal at the same place.
+-- Assumes nothing.
 use mathlib.Core.Path.{_≡_, refl, sym, _∙_, ap}
 use mathlib.Core.List.{List, [], _∷_, _++_}
 use Rattle.paper.specs.Answer.{Answer, ok, refused, _>>=_}
@@ -8,7 +8,7 @@ use Rattle.paper.specs.Store.{Store, ∅, component, resolve}
 use Rattle.paper.specs.Store as S
 use Rattle.paper.specs.Bounds as Bounds
 use Rattle.paper.specs.Meaning.{inherit, linked, B⟦_⟧, A⟦_⟧, V⟦_⟧, P⟦_⟧}
-use Rattle.paper.specs.Steps.{Step, make, take, enter, leave, done, set, steps, statement-steps, value-steps, prototype-steps, Where, made, step, exec, run}
+use Rattle.paper.specs.Steps.{Step, leave, done, steps, statement-steps, value-steps, prototype-steps, Where, made, step, exec, run}
 use Rattle.paper.proofs.Laws.Answers.{assoc, under}
 
 -- ---- running one list after another
@@ -17,6 +17,10 @@ exec-++ : (is js : List Step) (w : Where) (s : Store) → exec (is ++ js) w s �
 unfolding exec _>>=_
 exec-++ [] js w s = refl
 exec-++ (i ∷ is) js w s = under (step i w s) (λ x. exec-++ is js (x .0) (x .1)) ∙ sym (assoc (step i w s) _ _)
+
+-- where a run begins
+abbrev root : Where
+root = record { scope = []; making = [] }
 
 -- a store, with the machine where it was
 abbrev at : Where → Answer Store → Answer (Where × Store)
@@ -69,11 +73,12 @@ mutual
       then (steps b) (leave ∷ prototype-steps ps) inside inside s (B⟦ b ⟧ r s) (block-runs b inside s)
       ∙ both (within ns r ms) (B⟦ b ⟧ r s) (P⟦ ps ⟧ ns r) (λ s. prototypes-run ps ns r ms s)
 
--- the theorem: running the steps of a block over any store is evaluating the block over it
-pub run-steps : (b : Block) (s : Store) → run (steps b) s ≡ B⟦ b ⟧ [] s
+-- a store, taken out again from where the machine stands
+store-only : (w : Where) (m : Answer Store) → at w m >>= (λ x. ok (x .1)) ≡ m
+unfolding _>>=_
+store-only w (ok s) = refl
+store-only w (refused n p) = refl
+
+pub compiled : (b : Block) (s : Store) → run (steps b) s ≡ B⟦ b ⟧ [] s
 unfolding run _>>=_
-run-steps b s = ap (λ a. a >>= λ x. ok (x .1)) (block-runs b (record { scope = []; making = [] }) s) ∙ just (B⟦ b ⟧ [] s)
-  where
-    just : (m : Answer Store) → at (record { scope = []; making = [] }) m >>= (λ x. ok (x .1)) ≡ m
-    just (ok s) = refl
-    just (refused n p) = refl
+compiled b s = ap (λ a. a >>= λ x. ok (x .1)) (block-runs b root s) ∙ store-only root (B⟦ b ⟧ [] s)

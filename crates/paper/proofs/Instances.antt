@@ -1,17 +1,12 @@
 -- The predicate of well-formed tables holds of description 13's bytes: it is not empty. Assumes nothing.
-use Prim.Native.Nat.{ℕ}
-use mathlib.Core.Path.{_≡_, refl}
-use mathlib.Core.List.{List, [], _∷_}
+use mathlib.Core.Path.{refl}
+use mathlib.Core.List.{[], _∷_}
 use native.Mathlib.Omega.{arith}
 use lib.IntN.{pos}
-use lib.ListN.{length}
 use Rattle.paper.specs.Bytes.{bytes}
 use Rattle.paper.specs.Syntax.{integer}
-use Rattle.paper.specs.Tokens.{reserved, member, in-range}
-use Rattle.paper.specs.Scanner.{scan}
-use Rattle.paper.specs.Store.{Store, ∅, entry, basic, lookup}
-use Rattle.paper.specs.Layout.{table, rows, deepest, texts}
-use Rattle.paper.specs.WellFormed.{IsName, IsTable}
+use Rattle.paper.specs.Store.{∅, entry, basic}
+use Rattle.paper.specs.WellFormed.{IsTable}
 use Rattle.paper.proofs.Open.{all}
 
 one : IsTable (

@@ -5,5 +5,6 @@ pub mod Compiled
 pub mod Decoded
 pub mod Legal
 pub mod Demands
+pub mod Determined
 pub mod ReadExactly
 pub mod Instances

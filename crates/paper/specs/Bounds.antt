@@ -2,7 +2,7 @@
 use Prim.Native.Nat.{ℕ}
 use lib.ListN.{length}
 use lib.Dec.{leb}
-use Rattle.paper.specs.Answer.{Answer, ok, _>>=_, demand}
+use Rattle.paper.specs.Answer.{Answer, ok, demand, _>>=_}
 use Rattle.paper.specs.Syntax.{Path}
 use Rattle.paper.specs.Store.{Store, Value, bind}
 use Rattle.paper.specs.Layout.{rows, deepest, texts}

@@ -1,11 +1,11 @@
 -- The grammar (document 01, "Grammar") as a printer: the tokens that say a block, a line a production. A token whose place the abstract
 -- syntax names is spelt with that place. What a source says is read back by the reader, and nothing else is (proofs/ReadExactly).
 -- Assumes nothing.
-use Prim.Native.Nat.{ℕ, zero, suc, _≤_, max}
+use Prim.Native.Nat.{ℕ, suc, _≤_, max}
 use Prim.Native.Char.{Char, code}
 use Prim.Native.String.{String}
 use mathlib.Core.Path.{_≡_}
-use mathlib.Core.Bool.{Bool, true, false}
+use mathlib.Core.Bool.{true, false}
 use mathlib.Core.List.{List, [], _∷_, _++_}
 use mathlib.Core.Option.{Option, none, some}
 use lib.ListN.{length}

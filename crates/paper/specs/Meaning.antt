@@ -1,7 +1,7 @@
 -- What a description means (document 01, "Meaning"; document 002, Definitions 17 to 27), over any starting store.
 -- ns is the statement's scope; r is the target, scope joined with reference; p is a step's place. Assumes nothing.
 use Prim.Native.Nat.{ℕ}
-use mathlib.Core.List.{List, [], _∷_, _++_}
+use mathlib.Core.List.{[], _∷_, _++_}
 use mathlib.Core.Option.{Option, none, some}
 use Rattle.paper.specs.Bytes.{bytes}
 use Rattle.paper.specs.Answer.{Answer, ok, refused, _>>=_}

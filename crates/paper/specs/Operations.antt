@@ -6,7 +6,7 @@ use mathlib.Core.List.{List, [], _∷_, _++_}
 use mathlib.Core.Option.{Option, none, some}
 use lib.ListN.{length, drop, replicate}
 use lib.Dec.{leb, eqb}
-use Rattle.paper.specs.Answer.{Answer, ok, refused, _>>=_, demand}
+use Rattle.paper.specs.Answer.{Answer, ok, refused, demand, _>>=_}
 use Rattle.paper.specs.Reader.{read}
 use Rattle.paper.specs.Store.{Store, ∅}
 use Rattle.paper.specs.Meaning.{B⟦_⟧, main}
@@ -95,7 +95,12 @@ resolve-op source output work₁ work₂ work₃ = do
   _ ← demand (leb 65536 work₃) 8 0
   resolve source
 
--- ---- the lent slices afterwards
+-- ---- what the caller is told, and the lent slices afterwards
+
+-- how many bytes were written, or the refusal
+unfoldable pub told : Answer (List ℕ) → Answer ℕ
+told (ok b) = ok (length b)
+told (refused n p) = refused n p
 
 -- "Refusal writes nothing to the output; success writes total-length bytes and no more."
 unfoldable pub written : Answer (List ℕ) → List ℕ → List ℕ
@@ -116,26 +121,26 @@ cleared (refused n p) work = elim (eqb n 8) [ true ↦ work | false ↦ wiped wo
 -- ---- the whole outcome of a call, from what the lent slices held before it
 
 pub record Outcome : Type 0 where
-  pub answer : Answer (List ℕ)
+  pub answer : Answer ℕ
   pub output : List ℕ
   pub works : List (List ℕ)
 
 unfoldable pub translates : List ℕ → List ℕ → List ℕ → Outcome
 translates source output work =
     let a = translate-op source (length output) (length work) in
-    record { answer = a; output = written a output; works = cleared a work ∷ [] }
+    record { answer = told a; output = written a output; works = cleared a work ∷ [] }
 
 unfoldable pub runs : List ℕ → List ℕ → List ℕ → List ℕ → List ℕ → Outcome
 runs list start output work₁ work₂ =
     let a = run-op list start (length output) (length work₁) (length work₂) in
-    record { answer = a; output = written a output; works = cleared a work₁ ∷ cleared a work₂ ∷ [] }
+    record { answer = told a; output = written a output; works = cleared a work₁ ∷ cleared a work₂ ∷ [] }
 
 unfoldable pub takes-main : List ℕ → List ℕ → Outcome
 takes-main whole output =
     let a = main-op whole (length output) in
-    record { answer = a; output = written a output; works = [] }
+    record { answer = told a; output = written a output; works = [] }
 
 unfoldable pub resolves : List ℕ → List ℕ → List ℕ → List ℕ → List ℕ → Outcome
 resolves source output work₁ work₂ work₃ =
     let a = resolve-op source (length output) (length work₁) (length work₂) (length work₃) in
-    record { answer = a; output = written a output; works = cleared a work₁ ∷ cleared a work₂ ∷ cleared a work₃ ∷ [] }
+    record { answer = told a; output = written a output; works = cleared a work₁ ∷ cleared a work₂ ∷ cleared a work₃ ∷ [] }

@@ -10,7 +10,7 @@ use mathlib.Core.List.{List, [], _∷_}
 use lib.ListN.{length}
 use lib.Dec.{leb, ltb}
 use Rattle.paper.specs.Bytes.{if_then_else_}
-use Rattle.paper.specs.Answer.{Answer, ok, refused, _>>=_, demand}
+use Rattle.paper.specs.Answer.{Answer, ok, refused, demand, _>>=_}
 use Rattle.paper.specs.Syntax.{Path, Basic, boolean, null, reference, vector, Basics, εⱽ, _∷ⱽ_, Block, εᴮ, _∷ᴮ_, assign, Value, basic, link, extends, Prototypes, εᴾ, named, block}
 use Rattle.paper.specs.Tokens.{Token, name, literal, mark, end, is-name, is-word, is-mark, is-end, spelling, Here}
 use Rattle.paper.specs.Scanner.{next}

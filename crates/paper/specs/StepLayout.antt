@@ -3,7 +3,7 @@ use Prim.Native.Nat.{ℕ, suc}
 use mathlib.Core.List.{List, [], _∷_, _++_}
 use lib.ListN.{length}
 use lib.Dec.{leb}
-use Rattle.paper.specs.Answer.{Answer, ok, _>>=_, demand}
+use Rattle.paper.specs.Answer.{Answer, ok, demand, _>>=_}
 use Rattle.paper.specs.Layout.{Field, number, text, Row, little, path-text, kind, content, elements, laid-out, texts}
 use Rattle.paper.specs.Steps.{Step, make, take, enter, leave, done, set, link}
 

@@ -9,7 +9,7 @@ use Rattle.paper.specs.Bytes.{if_then_else_}
 use Rattle.paper.specs.Maybe.{_>>=_, require}
 use Rattle.paper.specs.Store.{Store, ∅, entry, component, lookup}
 use Rattle.paper.specs.Store as S
-use Rattle.paper.specs.Decoder.{Cursor, Raw, Form, record-at, field, name-of, basic-at, header, ended}
+use Rattle.paper.specs.Decoder.{Cursor, Form, record-at, field, name-of, basic-at, header, ended}
 
 unfoldable pub in-table : Form
 in-table = record { width = 0; top = 32; kind-in = λ x. x .first; fits = λ d x. eqb (x .second) d && eqb (x .label) 65535 }

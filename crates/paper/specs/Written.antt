@@ -1,7 +1,7 @@
 -- How tokens are written (document 01, "Tokens"), as plain relations: what is skipped, which bytes are which token, and what may not
 -- follow. The scanner finds exactly these (proofs/Scanned), so that it need not be read. Assumes nothing.
 use Prim.Native.Nat.{ℕ, _+_, _*_, _-_, _≤_, _<_}
-use Prim.Native.Char.{Char, code}
+use Prim.Native.Char.{code}
 use mathlib.Core.Path.{_≡_}
 use mathlib.Core.Bool.{Bool, true, false, not}
 use mathlib.Core.List.{List, [], _∷_, _++_}

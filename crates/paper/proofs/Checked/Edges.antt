@@ -1,12 +1,12 @@
 -- Descriptions and tokens at the edges of the rules, each computed. Assumes nothing.
 use Prim.Native.Nat.{ℕ, zero, suc, _+_, _*_}
-use Prim.Native.String.{String, _++_ as _+++_}
+use Prim.Native.String.{String}
 use mathlib.Core.Path.{_≡_, refl}
 use mathlib.Core.List.{List, [], _∷_, map, _++_}
-use lib.IntN.{ℤ, pos, negsuc}
-use lib.ListN.{length, replicate}
+use lib.IntN.{pos, negsuc}
+use lib.ListN.{replicate}
 use Rattle.paper.specs.Bytes.{bytes}
-use Rattle.paper.specs.Answer.{Answer, ok, refused, _>>=_}
+use Rattle.paper.specs.Answer.{Answer, ok, refused}
 use Rattle.paper.specs.Syntax.{integer, decimal, string}
 use Rattle.paper.specs.Tokens.{name, literal, mark, end}
 use Rattle.paper.specs.Scanner.{scan, Scanned, token, fault}

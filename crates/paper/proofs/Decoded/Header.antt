@@ -1,21 +1,19 @@
 -- The header of a table or a step list is read exactly. Assumes nothing.
-use Prim.Native.Nat.{ℕ, zero, suc, _+_, _*_, _-_, _^_, _≤_, _<_, max}
+use Prim.Native.Nat.{ℕ, _+_, _*_, _-_, _^_, _≤_, _<_}
 use native.Mathlib.Omega.{arith}
-use mathlib.Core.Path.{_≡_, refl, sym, _∙_, ap, ap₂, subst}
+use mathlib.Core.Path.{_≡_, refl, sym, _∙_, ap}
 use mathlib.Core.Bool.{Bool, true, false, false≢true}
-use mathlib.Core.List.{List, [], _∷_, _++_, append-assoc, append-nil}
-use mathlib.Core.Option.{Option, none, some}
-use lib.ListN.{length, take, drop, length-append, length-take, length-drop, take-append-drop}
+use mathlib.Core.List.{List, [], _∷_, _++_}
+use mathlib.Core.Option.{some}
+use lib.ListN.{length, take, drop, length-append, length-drop, take-append-drop}
 use lib.Seq.{take-at, drop-at, length-take-le}
-use lib.Dec.{leb, ltb, eqb}
 use borrow.Author.Tests.{leb-true, eqb-true, le-leb, eq-eqb}
 use Rattle.paper.specs.Bytes.{empty}
 use Rattle.paper.specs.Maybe.{_>>=_, require}
 use Rattle.paper.specs.Layout.{little, Row, row-bytes, texts, records, laid-out, row-text}
 use Rattle.paper.specs.Decoder.{Cursor, number-of, header, ended}
-use Rattle.paper.proofs.Decoded.Parts.{Reads, Exact, exact-number, length-little}
-use Rattle.paper.proofs.Decoded.Rows.{Front}
-use Rattle.paper.proofs.Laws.Found.{Found, nothing, found, found-bind, found-require, found-some}
+use Rattle.paper.proofs.Decoded.Parts.{exact-number, length-little}
+use Rattle.paper.proofs.Laws.Found.{Found, nothing, found, found-bind, found-require}
 
 -- the bytes with this header, these records and this text
 unfoldable pub headed : ℕ → ℕ → ℕ → List ℕ → List ℕ → List ℕ

@@ -3,25 +3,25 @@
 use Prim.Native.Nat.{ℕ, zero, suc, _+_, _*_, _-_, _/_, _%_, _^_, _≤_, _<_}
 use native.Mathlib.Omega.{arith}
 use native.Mathlib.Nat.{pow-suc}
-use mathlib.Core.Path.{_≡_, refl, sym, _∙_, ap, ap₂, subst}
-use mathlib.Core.Bool.{Bool, true, false, true≢false, false≢true, not, _&&_}
-use mathlib.Core.List.{List, [], _∷_, _++_, append-assoc, append-nil}
+use mathlib.Core.Path.{_≡_, refl, sym, _∙_, ap}
+use mathlib.Core.Bool.{true, false≢true}
+use mathlib.Core.List.{List, [], _∷_, _++_, append-assoc}
 use mathlib.Core.Option.{Option, none, some}
-use lib.ListN.{length, take, drop, length-append, take-append-drop}
+use lib.ListN.{length, take, length-append, take-append-drop}
 use lib.Seq.{take-append-seam, drop-append-seam, length-take-le}
 use lib.IntN.{ℤ, pos, negsuc}
-use lib.Dec.{T, leb, ltb, eqb, lt→ltb}
+use lib.Dec.{ltb}
 use borrow.Author.Tests.{ltb-true, ltb-false, leb-true, eqb-true, lt-ltb, le-ltb, le-leb, eq-eqb, not-true}
 use Rattle.paper.specs.Bytes.{if_then_else_}
 use Rattle.paper.specs.Maybe.{_>>=_, require}
-use Rattle.paper.specs.Syntax.{Name, Path, Basic, boolean, null, integer, decimal, string, reference, vector}
-use Rattle.paper.specs.Tokens.{Token, name, literal, mark, end, reserved, member, in-range}
+use Rattle.paper.specs.Syntax.{Path, boolean, null, integer, decimal, string, reference, vector}
+use Rattle.paper.specs.Tokens.{name, literal, mark, end, in-range}
 use Rattle.paper.specs.Scanner.{scan, Scanned, token, fault}
 use Rattle.paper.specs.Layout.{little, name-text, names-text, path-text, long-text, complement}
 use Rattle.paper.specs.WellFormed.{IsName, AreNames, IsPath}
 use Rattle.paper.specs.Decoder.{number-of, one-name, a-decimal, one-decimal, name-of, names-of, path-of, long-of, decimal-of, string-of, signed, Raw, raw-of}
 use Rattle.paper.proofs.Laws.Answers.{if-case}
-use Rattle.paper.proofs.Laws.Found.{Found, nothing, found, found-bind, found-require, found-some}
+use Rattle.paper.proofs.Laws.Found.{Found, nothing, found, found-bind, found-require}
 use Rattle.paper.proofs.Laws.Rescan.{named-whole, decimal-whole, decimal-short}
 
 -- what a reader found in s: x, of which P holds, was in front

@@ -1,25 +1,23 @@
 -- What stands before a reader: rows, and the text of one row. And what the two readers of basics do. Assumes nothing.
-use Prim.Native.Nat.{ℕ, zero, suc, _+_, _*_, _-_, _^_, _≤_, _<_, max}
+use Prim.Native.Nat.{ℕ, zero, suc, _+_, _*_, _-_, _^_, _≤_, _<_}
 use native.Mathlib.Omega.{arith}
 use native.Mathlib.Nat.{add-zero, add-assoc}
-use mathlib.Core.Path.{_≡_, refl, sym, _∙_, ap, ap₂, subst}
-use mathlib.Core.Bool.{Bool, true, false, true≢false, false≢true, not, _&&_}
+use mathlib.Core.Path.{_≡_, refl, sym, _∙_, ap, subst}
+use mathlib.Core.Bool.{Bool, true, false, false≢true}
 use mathlib.Core.List.{List, [], _∷_, _++_, append-assoc, append-nil}
-use mathlib.Core.Option.{Option, none, some}
-use lib.ListN.{length, take, drop, length-append}
-use lib.Dec.{T, leb, ltb, eqb}
-use borrow.Author.Tests.{ltb-true, leb-true, eqb-true, eqb-false, lt-ltb, le-leb, eq-eqb, ne-eqb}
+use mathlib.Core.Option.{Option, some}
+use lib.ListN.{length, length-append}
+use lib.Dec.{T, eqb}
+use borrow.Author.Tests.{leb-true, eqb-true, eqb-false, le-leb, eq-eqb, ne-eqb}
 use Rattle.paper.specs.Bytes.{if_then_else_}
 use Rattle.paper.specs.Maybe.{_>>=_, require}
-use Rattle.paper.specs.Syntax.{Name, Path, Basic, boolean, null, integer, decimal, string, reference, vector, Basics, εⱽ, _∷ⱽ_}
-use Rattle.paper.specs.Tokens.{in-range}
-use Rattle.paper.specs.Grammar.{brackets, brackets-in}
-use Rattle.paper.specs.Layout.{little, path-text, long-text, Field, number, text, Row, kind, content, elements, each, text-of, figure, row-text, row-bytes, texts, records}
+use Rattle.paper.specs.Syntax.{Basic, boolean, null, integer, decimal, string, reference, vector, Basics, εⱽ, _∷ⱽ_}
+use Rattle.paper.specs.Layout.{Field, text, Row, kind, content, elements, each, text-of, figure, row-text, row-bytes, texts, records}
 use Rattle.paper.specs.WellFormed.{IsBasic, AreBasic}
-use Rattle.paper.specs.Decoder.{Cursor, Raw, raw-of, record-at, field, path-of, decimal-of, string-of, signed, leaf, Form, basic-at, elements-at}
-use Rattle.paper.proofs.Decoded.Parts.{Reads, Exact, exact-path, exact-decimal, exact-string, exact-raw, IsDecimal, IsString, raw-bytes, Narrow, signed-range, signed-complement, complement-signed, complement-below}
+use Rattle.paper.specs.Decoder.{Cursor, Raw, record-at, field, leaf, Form, basic-at, elements-at}
+use Rattle.paper.proofs.Decoded.Parts.{Exact, exact-path, exact-decimal, exact-string, exact-raw, raw-bytes, Narrow, signed-range, signed-complement, complement-signed, complement-below}
 use Rattle.paper.proofs.Laws.Answers.{if-case}
-use Rattle.paper.proofs.Laws.Found.{Found, nothing, found, found-bind, found-require, found-some}
+use Rattle.paper.proofs.Laws.Found.{Found, nothing, found, found-bind, found-require}
 
 -- ---- what stands before a reader
 

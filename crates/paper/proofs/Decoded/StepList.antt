@@ -1,27 +1,27 @@
 -- Step lists are read exactly: `block-of b` is the block whose step list b is, and nothing where there is none. Assumes nothing.
-use Prim.Native.Nat.{ℕ, zero, suc, _+_, _*_, _-_, _^_, _≤_, _<_, max}
+use Prim.Native.Nat.{ℕ, zero, suc, _+_, _*_, _-_, _^_, _≤_, _<_}
 use native.Mathlib.Omega.{arith}
 use native.Mathlib.Nat.{add-zero}
-use mathlib.Core.Path.{_≡_, refl, sym, _∙_, ap, ap₂, subst}
-use mathlib.Core.Bool.{Bool, true, false, true≢false, false≢true, not, _&&_, _||_}
+use mathlib.Core.Path.{_≡_, refl, sym, _∙_, ap, subst}
+use mathlib.Core.Bool.{Bool, true, false, false≢true, _&&_}
 use mathlib.Core.List.{List, [], _∷_, _++_, append-assoc, append-nil}
-use mathlib.Core.Option.{Option, none, some}
+use mathlib.Core.Option.{some}
 use mathlib.Core.Logic.{_↔_}
 use lib.ListN.{length, length-append}
-use lib.Dec.{T, leb, ltb, eqb}
-use borrow.Author.Tests.{ltb-true, leb-true, eqb-true, eqb-false, lt-ltb, le-leb, eq-eqb, ne-eqb}
-use Rattle.paper.specs.Bytes.{if_then_else_, empty}
+use lib.Dec.{eqb}
+use borrow.Author.Tests.{ltb-true, leb-true, eqb-true, lt-ltb, le-leb, eq-eqb, ne-eqb}
+use Rattle.paper.specs.Bytes.{if_then_else_}
 use Rattle.paper.specs.Maybe.{_>>=_, require}
-use Rattle.paper.specs.Syntax.{Name, Path, Basic, boolean, null, integer, decimal, string, reference, vector, Basics, εⱽ, _∷ⱽ_, Block, εᴮ, _∷ᴮ_, Statement, assign, Value, basic, link, extends, Prototypes, εᴾ, named, block}
-use Rattle.paper.specs.Grammar.{brackets, brackets-in, openings, openings-a, openings-v, openings-p, Some}
-use Rattle.paper.specs.Layout.{little, path-text, Field, number, text, Row, kind, content, elements, each, text-of, figure, row-text, row-bytes, texts, records, laid-out}
-use Rattle.paper.specs.Steps.{Step, make, take, enter, leave, done, set, steps, statement-steps, value-steps, prototype-steps}
+use Rattle.paper.specs.Syntax.{Path, Basic, boolean, null, integer, decimal, string, reference, vector, Basics, εⱽ, _∷ⱽ_, Block, εᴮ, _∷ᴮ_, assign, Value, basic, link, extends, Prototypes, εᴾ, named, block}
+use Rattle.paper.specs.Grammar.{brackets, brackets-in, openings, openings-v, openings-p, Some}
+use Rattle.paper.specs.Layout.{little, path-text, Field, number, text, Row, kind, content, elements, each, text-of, figure, row-bytes, texts, records, laid-out}
+use Rattle.paper.specs.Steps.{Step, make, take, enter, leave, done, set, steps, value-steps, prototype-steps}
 use Rattle.paper.specs.StepLayout.{step-row, item, step-rows, all-rows, step-list}
-use Rattle.paper.specs.WellFormed.{IsPath, IsBasic, AreBasic, IsPlace, IsBlock, IsStatement, IsValueOf, ArePrototypes, IsStepList}
-use Rattle.paper.specs.Decoder.{Cursor, Raw, record-at, field, path-of, Form, basic-at, header, ended}
+use Rattle.paper.specs.WellFormed.{IsPath, IsPlace, IsBlock, IsValueOf, ArePrototypes, IsStepList}
+use Rattle.paper.specs.Decoder.{Cursor, Raw}
 use Rattle.paper.specs.StepDecoder.{in-steps, plain, bare, some-prototype, step-here, stops, statements-at, value-at, prototypes-at, block-of}
 use Rattle.paper.proofs.Decoded.Header.{headed, HeaderRead, header-sound, header-complete, Lasts, lasts-++, records-length, laid-out-headed, Ended, ended-sound, ended-complete}
-use Rattle.paper.proofs.Decoded.Parts.{Reads, Exact, exact-path, raw-bytes, Narrow, make-raw, same-raw, length-little}
+use Rattle.paper.proofs.Decoded.Parts.{exact-path, raw-bytes, Narrow, make-raw, same-raw, length-little}
 use Rattle.paper.proofs.Decoded.Rows.{Took, Record, Front, Fielded, Between, Parts, took-nil, front-nil, front-++, split, front-one, split-one, front-stays, stays, front-end, record-sound, record-complete, field-sound, field-complete, figure-below, kind-below, Within, WithinAll, Lawful, BasicRead, basic-sound, basic-complete}
 use Rattle.paper.proofs.Laws.Answers.{if-case}
 use Rattle.paper.proofs.Laws.Found.{Found, nothing, found, found-bind, found-require, found-last, found-some}

@@ -2,24 +2,24 @@
 use Prim.Native.Nat.{ℕ, zero, suc, _+_, _*_, _-_, _^_, _≤_, _<_, max}
 use native.Mathlib.Omega.{arith}
 use native.Mathlib.Nat.{add-zero}
-use mathlib.Core.Path.{_≡_, refl, sym, _∙_, ap, ap₂, subst}
-use mathlib.Core.Bool.{Bool, true, false, true≢false, false≢true, not, _&&_}
-use mathlib.Core.List.{List, [], _∷_, _++_, append-assoc, append-nil}
+use mathlib.Core.Path.{_≡_, refl, sym, _∙_, ap, subst}
+use mathlib.Core.Bool.{Bool, true, false, false≢true, _&&_}
+use mathlib.Core.List.{List, [], _∷_, _++_, append-nil}
 use mathlib.Core.Option.{Option, none, some}
 use mathlib.Core.Logic.{_↔_}
-use lib.ListN.{length, take, drop, length-append}
-use lib.Dec.{T, leb, ltb, eqb}
-use borrow.Author.Tests.{ltb-true, leb-true, eqb-true, eqb-false, lt-ltb, le-leb, eq-eqb, ne-eqb}
+use lib.ListN.{length, length-append}
+use lib.Dec.{eqb}
+use borrow.Author.Tests.{leb-true, eqb-true, le-leb, eq-eqb, ne-eqb}
 use Rattle.paper.specs.Bytes.{if_then_else_}
 use Rattle.paper.specs.Maybe.{_>>=_, require}
-use Rattle.paper.specs.Syntax.{Name, Path, Basic, boolean, null, integer, decimal, string, reference, vector, Basics, εⱽ, _∷ⱽ_}
+use Rattle.paper.specs.Syntax.{Name, Basic, boolean, null, integer, decimal, string, reference, vector, Basics, εⱽ, _∷ⱽ_}
 use Rattle.paper.specs.Store.{Store, ∅, entry, Value, basic, component, lookup}
-use Rattle.paper.specs.Layout.{little, name-text, Field, number, text, Row, kind, content, elements, each, table-row, rows, value-rows, text-of, figure, row-text, row-bytes, texts, records, laid-out, table, deepest}
-use Rattle.paper.specs.WellFormed.{IsName, IsBasic, AreBasic, IsStore, IsValue, IsTable}
-use Rattle.paper.specs.Decoder.{Cursor, Raw, record-at, field, name-of, Form, basic-at, header, ended}
+use Rattle.paper.specs.Layout.{little, name-text, Field, number, text, Row, kind, content, elements, each, table-row, rows, value-rows, text-of, figure, row-bytes, texts, records, laid-out, table, deepest}
+use Rattle.paper.specs.WellFormed.{IsName, IsBasic, IsStore, IsValue, IsTable}
+use Rattle.paper.specs.Decoder.{Cursor, Raw, basic-at}
 use Rattle.paper.specs.TableDecoder.{in-table, entries-at, absent, distinct, distinct-in, table-of}
-use Rattle.paper.proofs.Decoded.Header.{headed, HeaderRead, header-sound, header-complete, Lasts, lasts-++, records-length, laid-out-headed, Ended, ended-sound, ended-complete}
-use Rattle.paper.proofs.Decoded.Parts.{Reads, Exact, exact-name, raw-bytes, Narrow, make-raw, same-raw, length-little}
+use Rattle.paper.proofs.Decoded.Header.{headed, header-sound, header-complete, Lasts, lasts-++, records-length, laid-out-headed, ended-sound, ended-complete}
+use Rattle.paper.proofs.Decoded.Parts.{exact-name, raw-bytes, Narrow, make-raw, same-raw, length-little}
 use Rattle.paper.proofs.Decoded.Rows.{Took, Record, Front, Fielded, Between, Parts, took-nil, front-nil, front-++, split, front-one, split-one, front-stays, stays, front-end, record-sound, record-complete, field-sound, field-complete, figure-below, kind-below, Within, WithinAll, Lawful, BasicRead, basic-sound, basic-complete}
 use Rattle.paper.proofs.Laws.Answers.{if-case}
 use Rattle.paper.proofs.Laws.Found.{Found, nothing, found, found-bind, found-require, found-some}

@@ -1,34 +1,29 @@
 -- What the operations are asked to do, as theorems about their answers. Assumes nothing.
-use Prim.Native.Nat.{ℕ, zero, suc, _+_, _*_, _≤_, _<_}
+use Prim.Native.Nat.{ℕ, _≤_}
 use native.Mathlib.Omega.{arith}
-use mathlib.Core.Path.{_≡_, refl, sym, _∙_, ap, subst}
-use mathlib.Core.Bool.{Bool, true, false}
-use mathlib.Core.List.{List, [], _∷_, _++_}
+use mathlib.Core.Path.{_≡_, refl, sym}
+use mathlib.Core.List.{List, []}
 use mathlib.Core.Option.{Option, none, some}
-use mathlib.Core.Logic.{_↔_}
-use lib.ListN.{length, drop, length-append, length-drop, replicate, length-replicate}
-use lib.Dec.{leb, eqb, lit≤}
-use borrow.Author.Tests.{leb-true, le-leb, lt-leb, eqb-true}
+use lib.Dec.{lit≤}
+use borrow.Author.Tests.{le-leb}
 use Rattle.paper.specs.Answer.{Answer, ok, refused, _>>=_, demand}
 use Rattle.paper.specs.Syntax.{Block}
 use Rattle.paper.specs.Reader.{read}
 use Rattle.paper.specs.Store.{Store, ∅}
 use Rattle.paper.specs.Meaning.{B⟦_⟧, main}
-use Rattle.paper.specs.Layout.{table, rows, texts, records, laid-out, little}
+use Rattle.paper.specs.Layout.{table}
 use Rattle.paper.specs.Steps.{steps, run}
-use Rattle.paper.specs.StepLayout.{step-list, all-rows}
 use Rattle.paper.specs.WellFormed.{IsBlock, IsTable, IsStepList}
 use Rattle.paper.specs.TableDecoder.{table-of}
 use Rattle.paper.specs.StepDecoder.{block-of}
-use Rattle.paper.specs.Operations.{translated, evaluated, executed, resolved, translate, resolve, or-refused, translate-op, run-op, main-op, resolve-op, written, wiped, cleared}
-use Rattle.paper.proofs.Compiled.{run-steps}
-use Rattle.paper.proofs.Decoded.StepList.{block-sound, steps-complete, steps-exact}
-use Rattle.paper.proofs.Decoded.Table.{table-sound, table-complete, table-exact}
-use Rattle.paper.proofs.Laws.Answers.{assoc, under}
+use Rattle.paper.specs.Operations.{translated, evaluated, executed, resolved, translate, resolve, or-refused, translate-op, run-op, main-op, resolve-op}
+use Rattle.paper.proofs.Compiled.{compiled}
+use Rattle.paper.proofs.Decoded.StepList.{block-sound, steps-complete}
+use Rattle.paper.proofs.Decoded.Table.{table-sound, table-complete}
 use Rattle.paper.proofs.Laws.Found.{found-some}
-use Rattle.paper.proofs.Laws.Gives.{Gives, gives, refuses, gives-bind, gives-demand, gives-weaken, gives-ok, gives-refused}
-use Rattle.paper.proofs.Legal.Bounds.{IsBounded, of-table, to-table, empty-bounded, evaluates, evaluates-numbers, mains, main-numbers, Stepping, Main}
-use Rattle.paper.proofs.Legal.Read.{WellRead, read-well, Translated, translate-well, translate-numbers}
+use Rattle.paper.proofs.Laws.Gives.{Gives, gives, refuses, gives-bind, gives-demand, gives-weaken}
+use Rattle.paper.proofs.Legal.Bounds.{IsBounded, of-table, to-table, empty-bounded, evaluates, evaluates-numbers, mains, main-numbers, Stepping, Main, absent, no-component}
+use Rattle.paper.proofs.Legal.Read.{Translated, translate-well, translate-numbers}
 
 -- an answer's store as a table
 unfoldable pub tabled : Answer Store → Answer (List ℕ)
@@ -41,7 +36,7 @@ pub run-is : (list start : List ℕ) (d : Block) (s : Store) (o w₁ w₂ : ℕ)
     → run-op list start o w₁ w₂ ≡ tabled (B⟦ d ⟧ [] s)
 unfolding run-op tabled or-refused _>>=_ demand
 run-is list start d s o w₁ w₂ lo l₁ l₂ hd hs =
-    rw (le-leb 32792 o lo, le-leb 65536 w₁ l₁, le-leb 65536 w₂ l₂, steps-complete list d hd, table-complete start s hs, run-steps d s)
+    rw (le-leb 32792 o lo, le-leb 65536 w₁ l₁, le-leb 65536 w₂ l₂, steps-complete list d hd, table-complete start s hs, compiled d s)
 
 -- demand 3: a translated description, run over any table, gives what the description means over it
 pub runs-as-meant : (source list start : List ℕ) (s : Store) (o w₁ w₂ : ℕ) → 32792 ≤ o → 65536 ≤ w₁ → 65536 ≤ w₂ → translate source ≡ ok list → IsTable start s
@@ -61,7 +56,7 @@ main-is whole s o lo hs = rw (le-leb 32792 o lo, table-complete whole s hs)
 
 resolved-is : (source : List ℕ) (d : Block) → read source ≡ ok d → resolved source ≡ B⟦ d ⟧ [] ∅ >>= main
 unfolding resolved executed translated _>>=_
-resolved-is source d e = rw (e, run-steps d ∅)
+resolved-is source d e = rw (e, compiled d ∅)
 
 main-after : (d : Block) (o : ℕ) → 32792 ≤ o → IsBlock d → tabled (B⟦ d ⟧ [] ∅ >>= main) ≡ tabled (B⟦ d ⟧ [] ∅) >>= λ whole. main-op whole o
 unfolding tabled _>>=_
@@ -131,7 +126,7 @@ stepping d s hd hs = known (B⟦ d ⟧ [] s) (λ t e. evaluates d s t hd hs e) (
 
 pub run-tabled : (Q : ℕ → Type 0) → ((n : ℕ) → Stepping n → Q n) → (d : Block) (s : Store) → IsBlock d → IsBounded s → Gives Q SomeTable (run (steps d) s >>= λ t. ok (table t))
 unfolding tabled
-run-tabled Q f d s hd hs = rw (run-steps d s) (tabled-gives Q (B⟦ d ⟧ [] s) (gives-weaken f (λ t h. h) (stepping d s hd hs)))
+run-tabled Q f d s hd hs = rw (compiled d s) (tabled-gives Q (B⟦ d ⟧ [] s) (gives-weaken f (λ t h. h) (stepping d s hd hs)))
 
 pub run-gives : (list start : List ℕ) (o w₁ w₂ : ℕ) → Gives RunNumber SomeTable (run-op list start o w₁ w₂)
 unfolding run-op
@@ -142,8 +137,10 @@ run-gives list start o w₁ w₂ =
     run-tabled RunNumber (λ n q. (omega (arith, q .0), q .1)) d s (hd .blocks) (of-table hs))))))
 
 -- main: a table, or 8, 10, 19 or 20
-abbrev pub MainNumber : ℕ → Type 0
-MainNumber n = (8 ≤ n) × (n ≤ 20) × (n ≡ 9 → ⊥)
+pub data MainNumber : ℕ → Type 0 where
+  short : MainNumber 8
+  no-table : MainNumber 10
+  no-main : {n : ℕ} → Main n → MainNumber n
 
 main-tabled : (Q : ℕ → Type 0) → ((n : ℕ) → Main n → Q n) → (s : Store) → IsBounded s → Gives Q SomeTable (tabled (main s))
 main-tabled Q f s h = tabled-gives Q (main s) (known (main s) (λ c e. mains s c h e) (λ n p e. f n (main-numbers s n p h e)))
@@ -151,19 +148,23 @@ main-tabled Q f s h = tabled-gives Q (main s) (known (main s) (λ c e. mains s c
 pub main-gives : (whole : List ℕ) (o : ℕ) → Gives MainNumber SomeTable (main-op whole o)
 unfolding main-op tabled
 main-gives whole o =
-    gives-demand _ 8 0 _ (omega arith, omega arith, λ e. omega arith) (λ _.
-    gives-bind _ (from 10 MainNumber (IsTable whole) (table-of whole) (omega arith, omega arith, λ e. omega arith) (λ s e. found-some (table-sound whole) e)) (λ s hs.
-    main-tabled MainNumber (λ n q. (omega (arith, q .0), q .1, λ e. omega (arith, q .0))) s (of-table hs)))
+    gives-demand _ 8 0 _ short (λ _.
+    gives-bind _ (from 10 MainNumber (IsTable whole) (table-of whole) no-table (λ s e. found-some (table-sound whole) e)) (λ s hs.
+    main-tabled MainNumber (λ n q. no-main q) s (of-table hs)))
 
 -- resolve: a table, or a number from 1 to 20 that is not 9 or 10
 abbrev pub ResolveNumber : ℕ → Type 0
 ResolveNumber n = (1 ≤ n) × (n ≤ 20) × (n ≡ 9 → ⊥) × (n ≡ 10 → ⊥)
 
+main-range : {n : ℕ} → Main n → (19 ≤ n) × (n ≤ 20)
+main-range absent = (lit≤ tt, lit≤ tt)
+main-range no-component = (lit≤ tt, lit≤ tt)
+
 resolve-tabled : (d : Block) → IsBlock d → Gives ResolveNumber SomeTable (tabled (B⟦ d ⟧ [] ∅ >>= main))
 resolve-tabled d hd =
     tabled-gives ResolveNumber (B⟦ d ⟧ [] ∅ >>= main)
     (gives-bind main (gives-weaken (λ n q. (omega (arith, q .0), omega (arith, q .1), λ e. omega (arith, q .0), λ e. omega (arith, q .0))) (λ t h. h) (stepping d ∅ hd empty-bounded)) (λ s h.
-    known (main s) (λ c e. mains s c h e) (λ n p e. let q = main-numbers s n p h e in (omega (arith, q .0), q .1, λ e. omega (arith, q .0), λ e. omega (arith, q .0)))))
+    known (main s) (λ c e. mains s c h e) (λ n p e. let q = main-range (main-numbers s n p h e) in (omega (arith, q .0), q .1, λ e. omega (arith, q .0), λ e. omega (arith, q .0)))))
 
 pub resolve-gives : (source : List ℕ) (o w₁ w₂ w₃ : ℕ) → Gives ResolveNumber SomeTable (resolve-op source o w₁ w₂ w₃)
 unfolding resolve-op resolve tabled
@@ -177,12 +178,3 @@ resolve-gives source o w₁ w₂ w₃ =
   where
     after : (d : Block) → read source ≡ ok d → IsBlock d → Gives ResolveNumber SomeTable (resolved source >>= λ s. ok (table s))
     after d e hd = rw (resolved-is source d e) (resolve-tabled d hd)
-
--- no answer has number 0 or 21, and resolve's never 9 or 10
-pub numbers : (source list start whole : List ℕ) (o w₁ w₂ w₃ n p : ℕ)
-    → (translate-op source o w₁ ≡ refused n p → (1 ≤ n) × (n ≤ 8))
-    × (run-op list start o w₁ w₂ ≡ refused n p → (8 ≤ n) × (n ≤ 18))
-    × (main-op whole o ≡ refused n p → (8 ≤ n) × (n ≤ 20) × (n ≡ 9 → ⊥))
-    × (resolve-op source o w₁ w₂ w₃ ≡ refused n p → (1 ≤ n) × (n ≤ 20) × (n ≡ 9 → ⊥) × (n ≡ 10 → ⊥))
-numbers source list start whole o w₁ w₂ w₃ n p =
-    ((λ e. gives-refused (translate-gives source o w₁) e), (λ e. gives-refused (run-gives list start o w₁ w₂) e), (λ e. gives-refused (main-gives whole o) e), (λ e. gives-refused (resolve-gives source o w₁ w₂ w₃) e))

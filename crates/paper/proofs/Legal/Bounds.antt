@@ -1,24 +1,24 @@
 -- Evaluation keeps the bounds, so what it gives has a table; and so has the main component. Assumes nothing.
-use Prim.Native.Nat.{ℕ, zero, suc, _+_, _≤_, _<_, max}
+use Prim.Native.Nat.{ℕ, suc, _+_, _≤_, max}
 use native.Mathlib.Omega.{arith}
-use mathlib.Core.Path.{_≡_, refl, sym, _∙_, ap, subst}
+use mathlib.Core.Path.{_≡_, refl, subst}
 use mathlib.Core.Bool.{Bool, true, false}
 use mathlib.Core.List.{List, [], _∷_, _++_}
 use mathlib.Core.Option.{Option, none, some}
 use lib.ListN.{length, length-append}
-use lib.Dec.{leb, lit≤}
+use lib.Dec.{lit≤}
 use borrow.Author.Tests.{leb-true}
 use Rattle.paper.specs.Bytes.{bytes, same}
-use Rattle.paper.specs.Answer.{Answer, ok, refused, _>>=_}
+use Rattle.paper.specs.Answer.{ok, refused}
 use Rattle.paper.specs.Syntax.{Name, Path, Basic, boolean, null, integer, decimal, string, reference, vector, Basics, εⱽ, _∷ⱽ_, Block, εᴮ, _∷ᴮ_, Statement, assign, Value, basic, link, extends, Prototypes, εᴾ, named, block}
-use Rattle.paper.specs.Store.{Store, ∅, entry, component, put, lookup, find, resolve, bind}
+use Rattle.paper.specs.Store.{Store, ∅, entry, component, lookup, find, resolve, bind}
 use Rattle.paper.specs.Store as S
 use Rattle.paper.specs.Bounds.{bounded}
 use Rattle.paper.specs.Bounds as Bounds
 use Rattle.paper.specs.Meaning.{copy, inherit, linked, B⟦_⟧, A⟦_⟧, V⟦_⟧, P⟦_⟧, main}
-use Rattle.paper.specs.Layout.{Field, number, text, Row, table-row, name-text, kind, content, elements, each, rows, value-rows, row-text, text-of, texts, deepest, table}
+use Rattle.paper.specs.Layout.{Field, number, text, Row, table-row, name-text, kind, content, elements, each, rows, value-rows, row-text, texts, deepest, table}
 use Rattle.paper.specs.WellFormed.{IsStore, IsValue, IsBlock, IsStatement, IsValueOf, ArePrototypes, IsTable}
-use Rattle.paper.proofs.Laws.Gives.{Gives, gives, refuses, gives-bind, gives-demand, gives-weaken, gives-ok, gives-refused}
+use Rattle.paper.proofs.Laws.Gives.{Gives, gives, refuses, gives-bind, gives-demand, gives-ok, gives-refused}
 use Rattle.paper.proofs.Legal.Names.{keeps}
 
 -- within the bounds of a table
@@ -208,16 +208,17 @@ part (entry k v s) m c d h e = go (same k m) refl v (h .2) e (λ e. part s m c d
         record { store = p .store; less = less-trans (p .less) (less-right (value-rows d (text (name-text k)) v) (rows d s)) }
 
 -- a refusal of the main component has number 19 or 20
-abbrev pub Main : ℕ → Type 0
-Main n = (19 ≤ n) × (n ≤ 20)
+pub data Main : ℕ → Type 0 where
+  absent : Main 19
+  no-component : Main 20
 
 main-bound : (s : Store) → IsBounded s → Gives Main IsBounded (main s)
 unfolding main find
 main-bound s h = go (lookup s (bytes "sfConfig")) refl
   where
     go : (o : Option S.Value) → lookup s (bytes "sfConfig") ≡ o → Gives Main IsBounded (main s)
-    go none q = rw (q, main) (refuses (lit≤ tt, lit≤ tt))
-    go (some (S.basic b)) q = rw (q, main) (refuses (lit≤ tt, lit≤ tt))
+    go none q = rw (q, main) (refuses absent)
+    go (some (S.basic b)) q = rw (q, main) (refuses no-component)
     go (some (component t)) q =
         let p = part s (bytes "sfConfig") t 1 (h .store) q in
         let l = less-trans (deeper t 1) (p .less) in

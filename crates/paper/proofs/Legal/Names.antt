@@ -1,7 +1,7 @@
 -- Evaluation keeps stores as they should be: names well-formed and none twice (Theorem 2 of document 002). Assumes nothing.
 use Prim.Native.Nat.{ℕ, zero, suc, _≤_}
 use native.Mathlib.Omega.{arith}
-use mathlib.Core.Path.{_≡_, refl, sym, _∙_, ap, ap₂, subst}
+use mathlib.Core.Path.{_≡_, refl, sym, _∙_, ap₂, subst}
 use mathlib.Core.Bool.{Bool, true, false, true≢false, false≢true, _&&_}
 use mathlib.Core.List.{List, [], _∷_, _++_}
 use mathlib.Core.Option.{Option, none, some}
@@ -9,14 +9,14 @@ use lib.ListN.{length, take}
 use lib.Dec.{T, eqb, eqb-refl}
 use borrow.Author.Tests.{eqb-true}
 use Rattle.paper.specs.Bytes.{same}
-use Rattle.paper.specs.Answer.{Answer, ok, refused, _>>=_, demand}
-use Rattle.paper.specs.Syntax.{Name, Path, Basic, Block, εᴮ, _∷ᴮ_, Statement, assign, Value, basic, extends, Prototypes, εᴾ, named, block}
+use Rattle.paper.specs.Answer.{Answer, ok}
+use Rattle.paper.specs.Syntax.{Name, Path, Block, εᴮ, _∷ᴮ_, Statement, assign, Value, basic, extends, Prototypes, εᴾ, named, block}
 use Rattle.paper.specs.Store.{Store, ∅, entry, component, put, lookup, find, resolve-in, resolve, bind}
 use Rattle.paper.specs.Store as S
 use Rattle.paper.specs.Bounds.{bounded}
 use Rattle.paper.specs.Bounds as Bounds
 use Rattle.paper.specs.Meaning.{copy, inherit, linked, B⟦_⟧, A⟦_⟧, V⟦_⟧, P⟦_⟧}
-use Rattle.paper.specs.WellFormed.{IsName, AreNames, IsPath, IsBasic, IsStore, IsValue, IsBlock, IsStatement, IsValueOf, ArePrototypes}
+use Rattle.paper.specs.WellFormed.{IsName, AreNames, IsStore, IsValue, IsBlock, IsStatement, IsValueOf, ArePrototypes}
 use Rattle.paper.proofs.Laws.Answers.{All, holds, numbered, all-bind, all-demand}
 
 1≤ : {n : ℕ} → 1 ≤ suc n
@@ -68,7 +68,7 @@ same-refl (x ∷ a) = rw (T-true (eqb x x) (eqb-refl x), same-refl a)
 same-sym : (a b : List ℕ) → same a b ≡ false → same b a ≡ false
 same-sym a b e = cases (same b a) (λ t. absurd (true≢false (sym (subst (λ x. same x b ≡ true) (same-eq b a t) (same-refl b)) ∙ e))) (λ t. t)
 
-put-keeps : (s : Store) (n : Name) (v : S.Value) → IsName n → IsValue v → IsStore s → IsStore (put s n v)
+pub put-keeps : (s : Store) (n : Name) (v : S.Value) → IsName n → IsValue v → IsStore s → IsStore (put s n v)
 unfolding put lookup
 put-keeps ∅ n v hn hv hs = (hn, refl, hv, tt)
 put-keeps (entry m w s) n v hn hv hs =
@@ -186,3 +186,6 @@ kept-ok (numbered a) e = let z : _≡_ {A = ℕ} 0 1 = cc in absurd (omega arith
 -- the theorem: what a block gives is a store as it should be
 pub keeps : (b : Block) (ns : Path) (s t : Store) → IsBlock b → AreNames ns → IsStore s → B⟦ b ⟧ ns s ≡ ok t → IsStore t
 keeps b ns s t hb hn hs e = kept-ok (block-keeps b ns s hb hn hs) e
+
+pub bind-kept : (p : ℕ) (r : Path) (v : S.Value) (s t : Store) → AreNames r → IsValue v → IsStore s → bind p r v s ≡ ok t → IsStore t
+bind-kept p r v s t hr hv hs e = kept-ok (bind-keeps p r v s hr hv hs) e

@@ -1,30 +1,29 @@
 -- What a description is read as is well-formed, so what is translated is a step list. Assumes nothing.
-use Prim.Native.Nat.{ℕ, zero, suc, _+_, _*_, _-_, _≤_, _<_, max}
+use Prim.Native.Nat.{ℕ, zero, suc, _+_, _*_, _-_, _≤_, _<_}
 use native.Mathlib.Omega.{arith}
 use Prim.Native.Char.{Char}
 use Prim.Native.String.{String}
-use mathlib.Core.Path.{_≡_, refl, sym, _∙_, ap, subst}
-use mathlib.Core.Bool.{Bool, true, false, true≢false, false≢true, not}
+use mathlib.Core.Path.{_≡_, refl, subst}
+use mathlib.Core.Bool.{Bool, true, false, true≢false, false≢true}
 use mathlib.Core.List.{List, [], _∷_}
 use mathlib.Core.Option.{Option, none, some}
-use lib.ListN.{length, take, drop, length-drop}
-use lib.Dec.{T, leb, ltb, eqb, lit≤}
+use lib.ListN.{length, take, length-drop}
+use lib.Dec.{T, lit≤}
 use borrow.Author.Tests.{ltb-true, leb-true, not-true}
-use Rattle.paper.specs.Bytes.{if_then_else_, at, empty}
+use Rattle.paper.specs.Bytes.{empty}
 use Rattle.paper.specs.Answer.{Answer, ok, refused, _>>=_, demand}
-use Rattle.paper.specs.Syntax.{Path, Basic, boolean, null, integer, decimal, string, reference, vector, Basics, εⱽ, _∷ⱽ_, Block, εᴮ, _∷ᴮ_, Statement, assign, Value, basic, link, extends, Prototypes, εᴾ, named, block}
-use Rattle.paper.specs.Tokens.{Token, name, literal, mark, end, reserved, member, Here, past, is-name, is-word, is-mark, is-end, spelling}
-use Rattle.paper.specs.Scanner.{Scanned, token, fault, gap, skip, scan, found, next}
-use Rattle.paper.specs.Grammar.{brackets, brackets-in, openings, openings-a, openings-v, openings-p, Some}
+use Rattle.paper.specs.Syntax.{Path, Basic, boolean, null, integer, decimal, string, reference, vector, Basics, εⱽ, _∷ⱽ_, Block, εᴮ, _∷ᴮ_, assign, Value, basic, link, extends, Prototypes, εᴾ, named, block}
+use Rattle.paper.specs.Tokens.{Token, name, literal, mark, end, Here, past, is-name, spelling}
+use Rattle.paper.specs.Scanner.{Scanned, token, gap, skip, scan, found, next}
+use Rattle.paper.specs.Grammar.{brackets, brackets-in, openings, openings-v, openings-p, Some}
 use Rattle.paper.specs.Reader.{expect, expect-word, names, path, word, basic-at, basics, statements, value, prototypes, read}
-use Rattle.paper.specs.Layout.{texts}
 use Rattle.paper.specs.Steps.{steps}
-use Rattle.paper.specs.StepLayout.{all-rows, step-list, listed}
-use Rattle.paper.specs.WellFormed.{IsName, AreNames, IsPath, IsBasic, AreBasic, IsPlace, IsBlock, IsStatement, IsValueOf, ArePrototypes, IsStepList}
+use Rattle.paper.specs.StepLayout.{step-list, listed}
+use Rattle.paper.specs.WellFormed.{IsName, AreNames, IsPath, IsBasic, AreBasic, IsBlock, IsValueOf, ArePrototypes, IsStepList}
 use Rattle.paper.specs.Operations.{translated, translate}
 use Rattle.paper.proofs.Laws.Answers.{if-case}
 use Rattle.paper.proofs.Laws.Enough.{enough}
-use Rattle.paper.proofs.Laws.Gives.{Gives, gives, refuses, gives-bind, gives-demand, gives-weaken, gives-ok, gives-refused}
+use Rattle.paper.proofs.Laws.Gives.{Gives, gives, refuses, gives-bind, gives-demand, gives-ok, gives-refused}
 use Rattle.paper.proofs.Laws.Rescan.{Shape, at-end, a-name, a-decimal, an-integer, a-string, a-mark, a-fault, scan-shape, name-again, decimal-again}
 
 -- a refusal of a description has a number from 1 to 6 (or, where a reader's count runs out, 0)
