@@ -6,5 +6,6 @@ pub mod Decoded
 pub mod Legal
 pub mod Demands
 pub mod Determined
+pub mod Scanned
 pub mod ReadExactly
 pub mod Instances

@@ -1,6 +1,6 @@
 -- Which sources describe which block, and which are refused with what and where (document 01, "Grammar", "Order"): "the leftmost of 2 to 6".
 -- The reader answers exactly this (proofs/ReadExactly), so that it need not be read. Assumes nothing.
-use Prim.Native.Nat.{ℕ, suc, _+_, _≤_}
+use Prim.Native.Nat.{ℕ, suc, _+_, _≤_, _<_}
 use Prim.Native.Char.{code}
 use mathlib.Core.Path.{_≡_}
 use mathlib.Core.Bool.{Bool, true, false, _||_}
@@ -17,10 +17,10 @@ use Rattle.paper.specs.Grammar.{Spelt, spell, says, Free, Legal, Formed,
 abbrev pub start : List ℕ → Here
 start source = record { place = 0; rest = source }
 
--- the next tokens from `at` on are these, each with its place, up to `mid`
+-- the next tokens from `at` on are these, each with its place, up to `mid`; none of them is the end
 pub data Passes : Here → List (Token × ℕ) → Here → Type 0 where
   none-yet : {at : Here} → Passes at [] at
-  and-then : {at h after mid : Here} {t : Token} {ts : List (Token × ℕ)} → Next at t h after → Passes after ts mid → Passes at ((t, h .place) ∷ ts) mid
+  and-then : {at h after mid : Here} {t : Token} {ts : List (Token × ℕ)} → Next at t h after → (t ≡ end → ⊥) → Passes after ts mid → Passes at ((t, h .place) ∷ ts) mid
 
 -- the tokens alone
 abbrev pub kinds : List (Token × ℕ) → List Token
@@ -113,3 +113,8 @@ pub record First (source : List ℕ) (n p : ℕ) : Type 0 where
   pub passes : Passes (start source) list mid
   pub fine : Fine (kinds list)
   pub refuses : Refuses (kinds list) mid n p
+
+-- "description over 32,768 bytes", 1; else "the leftmost of 2 to 6"
+pub data Refused (source : List ℕ) : ℕ → ℕ → Type 0 where
+  too-long : 32768 < length source → Refused source 1 0
+  leftmost : {n p : ℕ} → length source ≤ 32768 → First source n p → Refused source n p

@@ -1,23 +1,22 @@
 -- The readers by index, as code has it: the records and the text are two slices of bytes, and a reader stands at a place in each.
 -- Assumes nothing.
-use Prim.Native.Nat.{ℕ, zero, suc, _+_, _*_, _-_, _^_, _≤_, _<_}
+use Prim.Native.Nat.{ℕ, zero, suc, _+_, _*_, _-_, _≤_, _<_}
 use native.Mathlib.Omega.{arith}
-use mathlib.Core.Path.{_≡_, refl, sym, _∙_, ap, ap₂, subst}
+use mathlib.Core.Path.{_≡_, refl, sym, _∙_, ap, subst}
 use mathlib.Core.Bool.{Bool, true, false, not}
-use mathlib.Core.List.{List, [], _∷_, _++_}
+use mathlib.Core.List.{List, [], _∷_}
 use mathlib.Core.Option.{Option, none, some}
 use lib.ListN.{length, take, drop, getD, length-append, length-drop, drop-of-length-le}
 use lib.Seq.{drop-cons, drop-drop}
 use lib.Dec.{leb, ltb, eqb, eqb·zero-suc, eqb·suc-suc}
-use borrow.Author.Tests.{lt-ltb, le-leb, lt-leb, eq-eqb, ne-eqb}
+use borrow.Author.Tests.{lt-ltb, eq-eqb, ne-eqb}
 use Rattle.paper.specs.Bytes.{empty}
 use Rattle.paper.specs.Maybe.{_>>=_, require}
-use Rattle.paper.specs.Syntax.{Name, Path}
 use Rattle.paper.specs.Tokens.{reserved, member}
 use Rattle.paper.specs.Scanner.{scan}
 use Rattle.paper.specs.Decoder.{Cursor, Raw, number-of, raw-of, record-at, field, one-name, name-of, names-of, path-of, long-of}
-use Rattle.paper.proofs.Decoded.Parts.{Reads, Exact, exact-raw, raw-bytes, Narrow, length-little}
-use Rattle.paper.proofs.Laws.Found.{Found, nothing, found}
+use Rattle.paper.proofs.Decoded.Parts.{Reads, exact-raw, raw-bytes, Narrow, length-little}
+use Rattle.paper.proofs.Laws.Found.{Found, found}
 
 -- what a slice of bytes is
 pub record Bytes (b : List ℕ) : Type 0 where

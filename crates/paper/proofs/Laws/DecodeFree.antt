@@ -1,28 +1,27 @@
 -- The readers of tables and step lists without their counts: each reader equals its body, with the readers themselves for its calls.
 -- These equations are what a proof about code uses; no count stands in them. Assumes nothing.
-use Prim.Native.Nat.{ℕ, zero, suc, _+_, _*_, _-_, _^_, _≤_, _<_}
+use Prim.Native.Nat.{ℕ, zero, suc, _+_, _*_, _-_, _≤_}
 use native.Mathlib.Omega.{arith}
-use native.Mathlib.Nat.{le-refl, le-trans}
-use mathlib.Core.Path.{_≡_, refl, sym, _∙_, ap, ap₂, subst}
-use mathlib.Core.Bool.{Bool, true, false, _&&_}
-use mathlib.Core.List.{List, [], _∷_, _++_}
+use native.Mathlib.Nat.{le-refl}
+use mathlib.Core.Path.{_≡_, refl, sym, _∙_, ap}
+use mathlib.Core.Bool.{Bool, true, false}
+use mathlib.Core.List.{List, _∷_}
 use mathlib.Core.Option.{Option, none, some}
 use lib.ListN.{length, length-append}
 use lib.Dec.{leb, ltb, eqb}
 use borrow.Author.Tests.{ltb-true, ltb-false}
 use Rattle.paper.specs.Bytes.{if_then_else_}
 use Rattle.paper.specs.Maybe.{_>>=_, require}
-use Rattle.paper.specs.Syntax.{Name, Path, Basic, boolean, null, integer, decimal, string, reference, vector, Basics, εⱽ, _∷ⱽ_, Block, εᴮ, _∷ᴮ_, assign, Value, basic, link, extends, Prototypes, εᴾ, named, block}
+use Rattle.paper.specs.Syntax.{Basic, vector, Basics, εⱽ, _∷ⱽ_, Block, εᴮ, _∷ᴮ_, assign, Value, basic, link, extends, Prototypes, εᴾ, named, block}
 use Rattle.paper.specs.Store.{Store, ∅, entry, component}
 use Rattle.paper.specs.Store as S
-use Rattle.paper.specs.Layout.{little}
-use Rattle.paper.specs.Decoder.{Cursor, Raw, raw-of, record-at, field, name-of, path-of, decimal-of, string-of, leaf, Form, basic-at, elements-at, header, ended}
+use Rattle.paper.specs.Decoder.{Cursor, Raw, record-at, field, name-of, path-of, decimal-of, string-of, leaf, Form, basic-at, elements-at, header, ended}
 use Rattle.paper.specs.TableDecoder.{in-table, entries-at, distinct, table-of}
 use Rattle.paper.specs.StepDecoder.{in-steps, plain, bare, some-prototype, stops, statements-at, value-at, prototypes-at, block-of}
 use Rattle.paper.proofs.Decoded.Parts.{raw-bytes, length-little}
 use Rattle.paper.proofs.Decoded.Rows.{Record, record-sound}
 use Rattle.paper.proofs.Laws.Answers.{if-case}
-use Rattle.paper.proofs.Laws.Found.{Found, nothing, found, found-bind, found-require, found-last, found-some}
+use Rattle.paper.proofs.Laws.Found.{Found, nothing, found, found-bind, found-require}
 
 -- ---- laws
 

@@ -4,18 +4,18 @@ use native.Mathlib.Omega.{arith}
 use native.Mathlib.Nat.{le-trans, le-refl, lt-of-lt-of-le, le-of-lt}
 use Prim.Native.Char.{Char}
 use Prim.Native.String.{String}
-use mathlib.Core.Path.{_≡_, refl, sym, _∙_, ap, subst}
-use mathlib.Core.Bool.{Bool, true, false, true≢false, false≢true, not, _||_}
+use mathlib.Core.Path.{_≡_, refl, sym, _∙_, ap}
+use mathlib.Core.Bool.{Bool, true, false, true≢false, false≢true, _||_}
 use mathlib.Core.List.{List, [], _∷_}
 use mathlib.Core.Option.{Option, none, some}
 use lib.ListN.{length, drop, length-drop}
-use lib.Dec.{T, leb, ltb, eqb}
+use lib.Dec.{eqb}
 use borrow.Author.Tests.{ltb-true}
-use Rattle.paper.specs.Bytes.{if_then_else_, is, among, at}
-use Rattle.paper.specs.Answer.{Answer, ok, refused, _>>=_, demand}
-use Rattle.paper.specs.Syntax.{Path, Basic, Basics, Block, Value, Prototypes}
-use Rattle.paper.specs.Tokens.{Token, name, literal, mark, end, starts, goes-on, digit, Here, past, is-name, is-word, is-mark, is-end}
-use Rattle.paper.specs.Scanner.{Scanned, token, fault, gap, skip, scan, found, next, number, named, text, quoted, whole, fraction, exponent, span}
+use Rattle.paper.specs.Bytes.{if_then_else_, at}
+use Rattle.paper.specs.Answer.{Answer, refused}
+use Rattle.paper.specs.Syntax.{Basic}
+use Rattle.paper.specs.Tokens.{Token, name, literal, mark, end, starts, goes-on, Here, past, is-name, is-word, is-mark}
+use Rattle.paper.specs.Scanner.{Scanned, token, fault, gap, skip, scan, found, next, number, named, text, span}
 use Rattle.paper.specs.Reader.{expect, expect-word, names, path, word, basic-at, basics, statements, value, prototypes, read}
 use Rattle.paper.proofs.Laws.Answers.{if-case, All, holds, numbered, all-bind, all-demand}
 

@@ -1,14 +1,13 @@
 -- The counts of `skip` and of `quoted` are always enough: one more changes nothing. Assumes nothing.
-use Prim.Native.Nat.{ℕ, zero, suc, _+_, _-_, _≤_, _<_}
+use Prim.Native.Nat.{ℕ, zero, suc, _+_, _-_, _≤_}
 use native.Mathlib.Omega.{arith}
-use mathlib.Core.Path.{_≡_, refl, sym, _∙_, ap}
-use mathlib.Core.Bool.{Bool, true, false, not, _&&_, _||_}
+use mathlib.Core.Path.{_≡_, refl}
+use mathlib.Core.Bool.{Bool, true, false}
 use mathlib.Core.List.{List, [], _∷_}
 use mathlib.Core.Option.{Option, none, some}
 use lib.ListN.{length, drop, length-drop}
-use Rattle.paper.specs.Bytes.{if_then_else_, is, among, between, at}
-use Rattle.paper.specs.Answer.{Answer, ok, refused}
-use Rattle.paper.specs.Tokens.{blank, octal, Here, past, escaped}
+use Rattle.paper.specs.Bytes.{if_then_else_, is, at}
+use Rattle.paper.specs.Tokens.{blank, past, escaped}
 use Rattle.paper.specs.Scanner.{gap, skip, meant, quoted}
 use Rattle.paper.proofs.Laws.Answers.{if-case}
 

@@ -1,19 +1,19 @@
 -- A token read once more from its own text alone is the same token: names and decimals. Assumes nothing.
-use Prim.Native.Nat.{ℕ, zero, suc, min, _+_, _*_, _-_, _≤_, _<_}
+use Prim.Native.Nat.{ℕ, zero, suc, min, _+_, _-_, _≤_, _<_}
 use native.Mathlib.Omega.{arith}
 use mathlib.Core.Path.{_≡_, refl, sym, _∙_, ap, subst}
-use mathlib.Core.Bool.{Bool, true, false, true≢false, false≢true, not, _&&_, _||_}
+use mathlib.Core.Bool.{Bool, true, false, true≢false, _||_}
 use mathlib.Core.List.{List, [], _∷_}
 use mathlib.Core.Option.{Option, none, some}
-use lib.ListN.{length, take, drop, getD, length-take, length-drop, List·getD-eq-default}
-use lib.Seq.{take-take, getD-take, take-nil, drop-nil, length-take-le, take-length}
+use lib.ListN.{length, take, drop, length-take, length-drop, List·getD-eq-default}
+use lib.Seq.{take-take, getD-take, take-nil, length-take-le, take-length}
 use lib.IntN.{ℤ}
-use lib.Dec.{T, leb, ltb, eqb, lit≤}
-use borrow.Author.Tests.{ltb-true, ltb-false, leb-true, eqb-true, eqb-false, lt-ltb, le-leb, ne-eqb}
-use Rattle.paper.specs.Bytes.{if_then_else_, is, among, between, at, empty}
-use Rattle.paper.specs.Syntax.{Basic, integer, decimal, string}
-use Rattle.paper.specs.Tokens.{Token, name, literal, mark, end, in-range, starts, goes-on, digit, valued}
-use Rattle.paper.specs.Scanner.{Scanned, token, fault, scan, number, named, text, quoted, digits-after, sign, whole, fraction, exponent, span}
+use lib.Dec.{ltb, eqb, lit≤}
+use borrow.Author.Tests.{ltb-true, ltb-false, leb-true, eqb-false, le-leb}
+use Rattle.paper.specs.Bytes.{if_then_else_, is, among, at, empty}
+use Rattle.paper.specs.Syntax.{integer, decimal, string}
+use Rattle.paper.specs.Tokens.{name, literal, mark, end, in-range, starts, goes-on, digit}
+use Rattle.paper.specs.Scanner.{Scanned, token, fault, scan, number, named, text, digits-after, sign, whole, fraction, exponent, span}
 use Rattle.paper.proofs.Laws.Answers.{if-case}
 
 -- ---- what a token can be

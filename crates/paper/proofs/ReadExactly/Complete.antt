@@ -1,27 +1,27 @@
 -- A description whose tokens spell a legal block is read as that block. Assumes nothing.
 -- The readers' counts: a reader gets x if it gives x, or if its count runs out (number 0), which `enough` rules out in the end.
-use Prim.Native.Nat.{ℕ, zero, suc, _+_, _*_, _-_, _≤_, _<_, max}
+use Prim.Native.Nat.{ℕ, zero, suc, _+_, _*_, _-_, _≤_}
 use native.Mathlib.Omega.{arith}
 use Prim.Native.Char.{Char, code}
 use Prim.Native.String.{String}
 use mathlib.Core.Path.{_≡_, refl, sym, _∙_, ap, subst}
-use mathlib.Core.Bool.{Bool, true, false, true≢false, false≢true, not, _||_, _&&_}
-use mathlib.Core.List.{List, [], _∷_, _++_}
+use mathlib.Core.Bool.{Bool, true, false, not, _||_}
+use mathlib.Core.List.{List, [], _∷_}
 use mathlib.Core.Option.{Option, none, some}
-use lib.ListN.{length, take}
-use lib.Dec.{eqb, ltb, leb}
+use lib.ListN.{length}
 use borrow.Author.Tests.{eq-eqb, lt-ltb, le-leb}
 use Rattle.paper.specs.Bytes.{if_then_else_, bytes, same}
 use Rattle.paper.specs.Answer.{Answer, ok, refused, _>>=_, demand}
-use Rattle.paper.specs.Syntax.{Path, Basic, boolean, null, integer, decimal, string, reference, vector, Basics, εⱽ, _∷ⱽ_, Block, εᴮ, _∷ᴮ_, Statement, assign, Value, basic, link, extends, Prototypes, εᴾ, named, block}
-use Rattle.paper.specs.Tokens.{Token, name, literal, mark, end, reserved, member, Here, is-name, is-word, is-mark, is-end, spelling}
+use Rattle.paper.specs.Syntax.{Path, Basic, boolean, null, integer, decimal, string, reference, vector, Basics, εⱽ, _∷ⱽ_, Block, εᴮ, _∷ᴮ_, assign, Value, basic, link, extends, Prototypes, εᴾ, named, block}
+use Rattle.paper.specs.Tokens.{Token, name, mark, end, reserved, member, Here, is-name, is-word, is-mark, is-end, spelling}
 use Rattle.paper.specs.Scanner.{next}
-use Rattle.paper.specs.Grammar.{brackets, brackets-in, openings, openings-a, openings-v, openings-p, Spelt, sign, word, then-names, spell-path, then-basics, spell-basic, spell-basics, target, then-prototypes, spell, spell-statement, spell-value, spell-prototypes, Free, Some, Legal}
+use Rattle.paper.specs.Grammar.{brackets, brackets-in, openings, openings-v, openings-p, Spelt, sign, word, spell-path, spell-basic, spell-basics, target, then-prototypes, spell, spell-statement, spell-value, spell-prototypes, Free, Some, Legal}
+use Rattle.paper.specs.Described.{Sits}
 use Rattle.paper.specs.Reader.{expect, expect-word, names, path, basic-at, basics, statements, value, prototypes, read}
 use Rattle.paper.specs.Reader as G
 use Rattle.paper.proofs.Laws.Enough.{enough}
-use Rattle.paper.proofs.ReadExactly.Printed.{LegalBasic, LegalBasics, LegalStatement, LegalValue, LegalPrototypes, Reference32}
-use Rattle.paper.proofs.ReadExactly.Sequence.{Sits, Reads, done, more, start, Tokens, join, Split, split, First, uncons, Last, final, Ahead}
+use Rattle.paper.proofs.ReadExactly.Printed.{LegalBasic, LegalBasics, LegalValue, LegalPrototypes, Reference32}
+use Rattle.paper.proofs.ReadExactly.Sequence.{Reads, done, Tokens, split, uncons, final, Ahead}
 
 -- ---- answers
 

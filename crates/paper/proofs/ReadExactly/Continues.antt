@@ -1,27 +1,28 @@
 -- No refusal with 3 comes where the tokens so far, and the next, begin the spelling of a block. Assumes nothing.
 use Prim.Native.Nat.{ℕ, zero, suc, _+_, _*_, _-_, _≤_, _<_}
 use native.Mathlib.Omega.{arith}
-use Prim.Native.Char.{Char, code}
+use Prim.Native.Char.{Char}
 use Prim.Native.String.{String}
 use mathlib.Core.Path.{_≡_, refl, sym, _∙_, ap, subst}
-use mathlib.Core.Bool.{Bool, true, false, true≢false, false≢true}
+use mathlib.Core.Bool.{Bool, true, false, true≢false}
 use mathlib.Core.List.{List, [], _∷_, _++_, append-assoc}
 use mathlib.Core.Option.{Option, none, some}
 use lib.ListN.{length}
-use Rattle.paper.specs.Bytes.{if_then_else_, bytes}
-use Rattle.paper.specs.Answer.{Answer, ok, refused, _>>=_, demand}
-use Rattle.paper.specs.Syntax.{Path, Basic, boolean, null, integer, decimal, string, reference, vector, Basics, εⱽ, _∷ⱽ_, Block, εᴮ, _∷ᴮ_, Statement, assign, Value, basic, link, extends, Prototypes, εᴾ, named, block}
-use Rattle.paper.specs.Tokens.{Token, name, literal, mark, end, reserved, member, Here, is-name, is-word, is-mark, is-end, spelling}
+use Rattle.paper.specs.Bytes.{if_then_else_}
+use Rattle.paper.specs.Answer.{Answer, ok, refused, _>>=_}
+use Rattle.paper.specs.Syntax.{Path, Basic, boolean, null, integer, decimal, string, reference, vector, Basics, εⱽ, _∷ⱽ_, Block, εᴮ, _∷ᴮ_, assign, Value, basic, link, extends, Prototypes, εᴾ, named, block}
+use Rattle.paper.specs.Tokens.{Token, end, reserved, member, Here, is-name, is-word, is-mark, is-end}
 use Rattle.paper.specs.Scanner.{next}
-use Rattle.paper.specs.Grammar.{Spelt, sign, word, then-names, spell-path, then-basics, spell-basic, spell-basics, target, then-prototypes, spell, spell-statement, spell-value, spell-prototypes, plain, Free, Some, Formed}
+use Rattle.paper.specs.Grammar.{Spelt, sign, word, spell-path, then-basics, spell-basic, spell-basics, target, then-prototypes, spell, spell-statement, spell-value, spell-prototypes, plain, Free, Some, Formed}
+use Rattle.paper.specs.Described.{start}
 use Rattle.paper.specs.Reader.{expect, expect-word, names, path, basic-at, basics, statements, value, prototypes, read}
 use Rattle.paper.specs.Reader as G
 use Rattle.paper.proofs.Laws.Answers.{if-case}
 use Rattle.paper.proofs.ReadExactly.Complete.{mark-self, word-self, name-free, name-no-word}
-use Rattle.paper.proofs.ReadExactly.Fit.{Proper, block-proper}
-use Rattle.paper.proofs.ReadExactly.Late.{Past, given, refusal, past-bind, past-demand, not-3, 0≢3, 5≢3, 6≢3, next-moves, Beyond, next-late, expect-late, expect-word-late, names-late, path-late, basic-late, basics-late, statements-late, value-late, prototypes-late}
-use Rattle.paper.proofs.ReadExactly.Printed.{Reference∞, FormedBasic, FormedBasics, FormedStatement, FormedValue, FormedPrototypes}
-use Rattle.paper.proofs.ReadExactly.Sequence.{start, Passes, none-yet, and-then}
+use Rattle.paper.proofs.ReadExactly.Proper.{Proper, block-proper}
+use Rattle.paper.proofs.ReadExactly.Late.{Past, given, refusal, past-bind, past-demand, not-3, 0≢3, 5≢3, 6≢3, next-moves, Beyond, next-late, expect-late, names-late, basic-late, basics-late, statements-late, value-late, prototypes-late}
+use Rattle.paper.proofs.ReadExactly.Printed.{Reference∞, FormedBasic, FormedBasics, FormedValue, FormedPrototypes}
+use Rattle.paper.proofs.ReadExactly.Sequence.{Scans, none-yet, and-then}
 
 -- ---- the tokens are those spelt as far as p
 
@@ -379,7 +380,7 @@ nil-append : (ts : List Token) (t : Token) (us : List Token) → [] ≡ ts ++ (t
 nil-append [] t us e = let z : _≡_ {A = ℕ} 0 1 = cc in omega arith
 nil-append (x ∷ ts) t us e = let z : _≡_ {A = ℕ} 0 1 = cc in omega arith
 
-meets : {p : ℕ} (ys : List Spelt) {at mid h after : Here} {ts : List Token} {t : Token} (us : List Token) → Proper ys → Passes at ts mid → next mid ≡ ok (t, h, after) → h .place ≡ p → plain ys ++ (end ∷ []) ≡ ts ++ (t ∷ us) → Meets p at (ys ++ ((end, none) ∷ []))
+meets : {p : ℕ} (ys : List Spelt) {at mid h after : Here} {ts : List Token} {t : Token} (us : List Token) → Proper ys → Scans at ts mid → next mid ≡ ok (t, h, after) → h .place ≡ p → plain ys ++ (end ∷ []) ≡ ts ++ (t ∷ us) → Meets p at (ys ++ ((end, none) ∷ []))
 meets [] {h = h} {after = a} {t = t} us pr none-yet e q w = let z : t ≡ end = cc in more (e ∙ ap (λ i. ok (i, h, a)) z) done
 meets {p} (y ∷ ys) {mid = mid} {h = h} {after = a} {t = t} us pr none-yet e q w =
     let z : t ≡ y .0 = cc in
@@ -399,6 +400,6 @@ past-refused {p = p} (refusal {n = n} {q = q} l) e = let i : n ≡ 3 = cc in let
 
 -- where read refuses with 3 at p, the tokens before p, and the one at p (or the end), do not begin the spelling of a block and the end
 pub cannot-continue : (source : List ℕ) (p : ℕ) → read source ≡ refused 3 p
-    → (ts us : List Token) (t : Token) (mid h after : Here) → Passes (start source) ts mid → next mid ≡ ok (t, h, after) → h .place ≡ p
+    → (ts us : List Token) (t : Token) (mid h after : Here) → Scans (start source) ts mid → next mid ≡ ok (t, h, after) → h .place ≡ p
     → (b : Block) → Formed b → plain (spell b) ++ (end ∷ []) ≡ ts ++ (t ∷ us) → ⊥
 cannot-continue source p e ts us t mid h after r f q b l w = past-refused (read-fine source b l (meets (spell b) us (block-proper b) r f q w)) e

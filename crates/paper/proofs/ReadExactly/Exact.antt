@@ -1,32 +1,26 @@
 -- The reader is the grammar: what is read is what the source's tokens spell, and nothing else. Assumes nothing.
-use Prim.Native.Nat.{ℕ, zero, suc, _≤_, _<_, max}
-use native.Mathlib.Omega.{arith}
-use mathlib.Core.Path.{_≡_, refl, sym, _∙_, ap, subst}
-use mathlib.Core.Bool.{Bool, true, false}
-use mathlib.Core.List.{List, [], _∷_, _++_, append-assoc}
+use Prim.Native.Nat.{ℕ, _≤_}
+use mathlib.Core.Path.{_≡_, refl, sym, _∙_, ap}
+use mathlib.Core.List.{List, [], _∷_}
 use mathlib.Core.Logic.{_↔_}
 use lib.ListN.{length}
-use lib.Dec.{leb}
-use borrow.Author.Tests.{leb-true, leb-false}
-use Rattle.paper.specs.Answer.{Answer, ok, refused, _>>=_, demand}
+use borrow.Author.Tests.{leb-true}
+use Rattle.paper.specs.Answer.{Answer, ok, refused}
 use Rattle.paper.specs.Syntax.{Path, Basic, boolean, null, integer, decimal, string, reference, vector, Basics, εⱽ, _∷ⱽ_, Block, εᴮ, _∷ᴮ_, Statement, assign, Value, basic, link, extends, Prototypes, εᴾ, named, block}
-use Rattle.paper.specs.Tokens.{Token, end, Here, is-end}
+use Rattle.paper.specs.Tokens.{Token, end, Here}
 use Rattle.paper.specs.Scanner.{next}
-use Rattle.paper.specs.Grammar.{openings, Spelt, spell, plain, says, Formed, Free, Some, Legal}
-use Rattle.paper.specs.Grammar as W
+use Rattle.paper.specs.Grammar.{Spelt, spell, Free, Legal}
+use Rattle.paper.specs.Described.{Passes, none-yet, and-then, Fits, Describes}
 use Rattle.paper.specs.Reader.{statements, read}
 use Rattle.paper.specs.WellFormed.{AreNames, IsPath, IsBasic, AreBasic, IsBlock, IsStatement, IsValueOf, ArePrototypes}
-use Rattle.paper.proofs.Laws.Gives.{Gives, gives, refuses, gives-bind, gives-demand, gives-ok, gives-refused}
-use Rattle.paper.proofs.Legal.Read.{WellRead, read-well}
+use Rattle.paper.proofs.Laws.Gives.{Gives, gives, refuses, gives-bind, gives-demand, gives-ok}
+use Rattle.paper.proofs.Legal.Read.{read-well}
 use Rattle.paper.proofs.ReadExactly.Complete.{read-complete}
-use Rattle.paper.proofs.ReadExactly.Continues.{cannot-continue}
-use Rattle.paper.proofs.ReadExactly.Fit.{Sequence, to-sequence, of-sequence}
-use Rattle.paper.proofs.ReadExactly.Placed.{Spelled, Placed, placed}
-use Rattle.paper.proofs.ReadExactly.Printed.{bare, LegalBasic, LegalBasics, LegalStatement, LegalValue, LegalPrototypes, Reference32}
-use Rattle.paper.proofs.ReadExactly.ScanRefused.{Lexical, no-token, out-of-range, too-long, next-lexical}
-use Rattle.paper.proofs.ReadExactly.Sequence.{tokens, start, Fits, Tokens, Passes}
+use Rattle.paper.proofs.ReadExactly.Proper.{Proper, block-proper, proper-no-end}
+use Rattle.paper.proofs.ReadExactly.Printed.{LegalBasic, LegalBasics, LegalStatement, LegalValue, LegalPrototypes, Reference32}
+use Rattle.paper.proofs.ReadExactly.Sequence.{Reads, done, more}
 use Rattle.paper.proofs.ReadExactly.Sound.{read-sound}
-use Rattle.paper.proofs.ReadExactly.Stuck.{Before, begun, Shows, a-token, none-there}
+use Rattle.paper.proofs.Scanned.{scanned}
 
 -- ---- what is well-formed is legal
 
@@ -51,11 +45,6 @@ mutual
   basics-legal εⱽ h = tt
   basics-legal (b ∷ⱽ bs) h = (basic-legal b (h .0), basics-legal bs (h .1))
 
-some-legal : (ps : Prototypes) → W.Some ps → Some ps
-some-legal εᴾ h = h
-some-legal (named p r ps) h = tt
-some-legal (block b ps) h = tt
-
 mutual
   legal : (b : Block) → IsBlock b → Legal b
   legal εᴮ h = tt
@@ -67,7 +56,7 @@ mutual
   value-legal : (v : Value) → IsValueOf v → LegalValue v
   value-legal (basic p b) h = basic-legal b (h .1)
   value-legal (link p r) h = path-legal r (h .1)
-  value-legal (extends p ps) h = (some-legal ps (h .1), prototypes-legal ps (h .2))
+  value-legal (extends p ps) h = (h .1, prototypes-legal ps (h .2))
 
   prototypes-legal : (ps : Prototypes) → ArePrototypes ps → LegalPrototypes ps
   prototypes-legal εᴾ h = tt
@@ -89,16 +78,27 @@ small-enough source =
     gives-demand _ 1 _ _ tt (λ e. let l = leb-true (length source) 32768 e in
     gives-bind _ (any (statements _ 32 _)) (λ b _. gives-bind _ (any (next (b .1))) (λ y _. gives-demand _ 3 _ _ tt (λ _. gives (record { small = l })))))
 
--- ---- the theorems
+-- ---- the tokens read, and the source's
 
--- the source describes b: its tokens are b's, where b says that they stand, and the limits are kept
-pub record Describes (source : List ℕ) (b : Block) : Type 0 where
-  pub size : length source ≤ 32768
-  pub legal : Legal b
-  pub nested : openings b ≤ 32
-  pub list : List (Token × ℕ)
-  pub scanned : tokens source ≡ ok list
-  pub spelt : Fits list (spell b)
+-- the tokens of a source that are those spelt, each with its place
+record Placed (at : Here) (xs : List Spelt) (mid : Here) : Type 0 where
+  list : List (Token × ℕ)
+  passes : Passes at list mid
+  fits : Fits list xs
+
+placed : {at mid : Here} {xs : List Spelt} → Proper xs → Reads at xs mid → Placed at xs mid
+placed p done = record { list = []; passes = none-yet; fits = tt }
+placed {at} p (more {h = h} {after = a} {x = x} e s r) =
+    let q = placed (p .1) r in
+    record { list = (x .0, h .place) ∷ q .list; passes = and-then (scanned .a-token at (x .0) h a .0 e) (proper-no-end (x .0) (p .0)) (q .passes); fits = (refl, s, q .fits) }
+
+spelt : {at mid : Here} {list : List (Token × ℕ)} (xs : List Spelt) → Passes at list mid → Fits list xs → Reads at xs mid
+spelt [] none-yet f = done
+spelt (x ∷ xs) none-yet f = absurd f
+spelt [] (and-then n e r) f = absurd f
+spelt {at} (x ∷ xs) (and-then {h = h} {after = a} {t = t} n e r) f = more (scanned .a-token at t h a .1 n ∙ ap (λ t. ok (t, h, a)) (f .0)) (f .1) (spelt xs r (f .2))
+
+-- ---- the theorems
 
 pub reads-exactly : (source : List ℕ) (b : Block) → (read source ≡ ok b) ↔ Describes source b
 reads-exactly source b = (to, back)
@@ -106,11 +106,24 @@ reads-exactly source b = (to, back)
     to : read source ≡ ok b → Describes source b
     to e =
         let w = read-well source b e in
-        let s = to-sequence source b (read-sound source b e) in
-        record { size = gives-ok (small-enough source) e .small; legal = legal b (w .blocks); nested = w .nested; list = s .list; scanned = s .is; spelt = s .fits }
+        let s = read-sound source b e in
+        let p = placed (block-proper b) (s .reads) in
+        record {
+          size = gives-ok (small-enough source) e .small;
+          legal = legal b (w .blocks);
+          nested = w .nested;
+          list = p .list;
+          mid = s .out;
+          h = s .h;
+          after = s .after;
+          passes = p .passes;
+          ended = scanned .a-token (s .out) end (s .h) (s .after) .0 (s .ended);
+          spelt = p .fits;
+        }
 
     back : Describes source b → read source ≡ ok b
-    back d = read-complete source b (d .size) (d .legal) (d .nested) (of-sequence source (d .list) (spell b) (d .scanned) (d .spelt))
+    back d = read-complete source b (d .size) (d .legal) (d .nested)
+        (record { out = d .mid; h = d .h; after = d .after; reads = spelt (spell b) (d .passes) (d .spelt); ended = scanned .a-token (d .mid) end (d .h) (d .after) .1 (d .ended) })
 
 -- the grammar is unambiguous: a source describes one block
 pub describes-one : (source : List ℕ) (b c : Block) → Describes source b → Describes source c → b ≡ c
@@ -118,124 +131,3 @@ describes-one source b c h k = inside (sym (reads-exactly source b .1 h) ∙ rea
   where
     inside : {X : Type 0} {a b : X} → ok a ≡ ok b → a ≡ b
     inside e = cc
-
--- ---- places aside
-
--- the tokens of a scanned source, wherever they stand
-abbrev pub kinds : List (Token × ℕ) → List Token
-kinds [] = []
-kinds (t ∷ ts) = t .0 ∷ kinds ts
-
-spelled : (ts : List (Token × ℕ)) (xs : List Spelt) → kinds ts ≡ plain xs → Spelled ts xs
-spelled [] [] e = tt
-spelled [] (x ∷ xs) e = let z : _≡_ {A = ℕ} 0 1 = cc in absurd (omega arith)
-spelled (t ∷ ts) [] e = let z : _≡_ {A = ℕ} 0 1 = cc in absurd (omega arith)
-spelled (t ∷ ts) (x ∷ xs) e = let q : t .0 ≡ x .0 = cc in let r : kinds ts ≡ plain xs = cc in (q, spelled ts xs r)
-
-same-kinds : (ts : List (Token × ℕ)) (xs : List Spelt) → Fits ts xs → kinds ts ≡ plain xs
-same-kinds [] [] h = refl
-same-kinds [] (x ∷ xs) h = absurd h
-same-kinds (t ∷ ts) [] h = absurd h
-same-kinds (t ∷ ts) (x ∷ xs) h = let q : t .0 ≡ x .0 = h .0 in let r = same-kinds ts xs (h .2) in cc
-
--- the source's tokens are what b says, and the limits are kept
-pub record Says (source : List ℕ) (b : Block) : Type 0 where
-  pub size : length source ≤ 32768
-  pub legal : Legal b
-  pub nested : openings b ≤ 32
-  pub list : List (Token × ℕ)
-  pub scanned : tokens source ≡ ok list
-  pub said : kinds list ≡ says b
-
--- it is read, as b but for the places
-pub record ReadAs (source : List ℕ) (b : Block) : Type 0 where
-  pub it : Block
-  pub is-read : read source ≡ ok it
-  pub same : bare it ≡ bare b
-
-pub read-says : (source : List ℕ) (b : Block) → read source ≡ ok b → Says source b
-read-says source b e = let d = reads-exactly source b .0 e in record { size = d .size; legal = d .legal; nested = d .nested; list = d .list; scanned = d .scanned; said = same-kinds (d .list) (spell b) (d .spelt) }
-
-pub says-read : (source : List ℕ) (b : Block) → Says source b → ReadAs source b
-says-read source b d =
-    let p = placed b (d .list) (d .legal) (spelled (d .list) (spell b) (d .said)) in
-    record { it = p .it; is-read = reads-exactly source (p .it) .1 (record { size = d .size; legal = p .legal; nested = omega (arith, p .few, d .nested); list = d .list; scanned = d .scanned; spelt = p .fits }); same = p .same }
-
--- a source is read exactly when its tokens are what some block says
-pub read-when : (source : List ℕ) → ((b : Block) × (read source ≡ ok b)) ↔ ((b : Block) × Says source b)
-read-when source = (λ h. (h .0, read-says source (h .0) (h .1)), λ h. let r = says-read source (h .0) (h .1) in (r .it, r .is-read))
-
--- ---- refusals
-
--- number 1 is for the size, and for nothing else
-pub too-big : (source : List ℕ) → 32768 < length source → read source ≡ refused 1 0
-unfolding read demand _>>=_
-too-big source l = go (leb (length source) 32768) refl
-  where
-    go : (c : Bool) → leb (length source) 32768 ≡ c → read source ≡ refused 1 0
-    go true e = let k = leb-true (length source) 32768 e in absurd (omega arith)
-    go false e = rw e
-
-size-of : (source : List ℕ) (n p : ℕ) → read source ≡ refused n p → (n ≡ 1 → ⊥) → length source ≤ 32768
-size-of source n p e ne = go (leb (length source) 32768) refl
-  where
-    go : (c : Bool) → leb (length source) 32768 ≡ c → length source ≤ 32768
-    go true c = leb-true (length source) 32768 c
-    go false c = let k = leb-false (length source) 32768 c in let f = too-big source (omega arith) in let i : n ≡ 1 = cc in absurd (ne i)
-
--- any other refusal: the tokens before it begin what some block says (limits aside), and there stands a token for 3, 5 or 6,
--- or none for 2, 4 or 6
-pub refused-at : (source : List ℕ) (n p : ℕ) → read source ≡ refused n p → (n ≡ 1 → ⊥) → Before source n p
-refused-at source n p e ne = begun source n p (size-of source n p e ne) e
-
--- a refusal with 3: at p stands a token, or the end; those before it begin what some block says (limits aside), and with it they begin
--- what no block says, or, at the end, are what no block says
-pub record Rightly (source : List ℕ) (p : ℕ) : Type 0 where
-  pub before : List Token
-  pub token : Token
-  pub mid : Here
-  pub h : Here
-  pub after : Here
-  pub are : Passes (start source) before mid
-  pub is : next mid ≡ ok (token, h, after)
-  pub place : h .place ≡ p
-  pub would-be : Block
-  pub rest : List Token
-  pub formed : Formed would-be
-  pub begins : says would-be ≡ before ++ rest
-  pub goes-on-in-none : (b : Block) (us : List Token) → Formed b → says b ≡ before ++ (token ∷ us) → ⊥
-  pub ends-none : token ≡ end → (b : Block) → Formed b → says b ≡ before → ⊥
-
-no-3 : {n : ℕ} → Lexical n → n ≡ 3 → ⊥
-no-3 no-token e = omega arith
-no-3 out-of-range e = omega arith
-no-3 too-long e = omega arith
-
-1-not-3 : _≡_ {A = ℕ} 3 1 → ⊥
-1-not-3 e = omega arith
-
-pub refused-rightly : (source : List ℕ) (p : ℕ) → read source ≡ refused 3 p → Rightly source p
-refused-rightly source p e = go (refused-at source 3 p e 1-not-3)
-  where
-    by : (s : Before source 3 p) → Shows (s .mid) 3 p → Rightly source p
-    by s (none-there w) = absurd (no-3 (gives-refused (next-lexical (s .mid)) w) refl)
-    by s (a-token {t = t} {h = h} {after = a} g w q) =
-        record {
-          before = s .before;
-          token = t;
-          mid = s .mid;
-          h = h;
-          after = a;
-          are = s .are;
-          is = w;
-          place = q;
-          would-be = s .would-be;
-          rest = s .rest;
-          formed = s .formed;
-          begins = s .begins;
-          goes-on-in-none = λ b us l k. cannot-continue source p e (s .before) (us ++ (end ∷ [])) t (s .mid) h a (s .are) w q b l (ap (λ l. l ++ (end ∷ [])) k ∙ append-assoc (s .before) (t ∷ us) (end ∷ []));
-          ends-none = λ z b l k. cannot-continue source p e (s .before) [] t (s .mid) h a (s .are) w q b l (ap (λ l. l ++ (end ∷ [])) k ∙ ap (λ i. s .before ++ (i ∷ [])) (sym z));
-        }
-
-    go : Before source 3 p → Rightly source p
-    go s = by s (s .shows)

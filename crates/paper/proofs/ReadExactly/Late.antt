@@ -1,19 +1,18 @@
 -- What stands past a place: a reader that starts past p ends past p, or refuses past p. Assumes nothing.
-use Prim.Native.Nat.{ℕ, zero, suc, _+_, _*_, _-_, _≤_, _<_}
+use Prim.Native.Nat.{ℕ, zero, suc, _+_, _-_, _<_}
 use native.Mathlib.Omega.{arith}
 use Prim.Native.Char.{Char}
 use Prim.Native.String.{String}
-use mathlib.Core.Path.{_≡_, refl, sym, _∙_, ap, subst}
+use mathlib.Core.Path.{_≡_, refl}
 use mathlib.Core.Bool.{Bool, true, false}
-use mathlib.Core.List.{List, [], _∷_}
+use mathlib.Core.List.{List}
 use mathlib.Core.Option.{Option, none, some}
 use lib.ListN.{length}
-use Rattle.paper.specs.Bytes.{if_then_else_}
 use Rattle.paper.specs.Answer.{Answer, ok, refused, _>>=_, demand}
-use Rattle.paper.specs.Syntax.{Path, Basic, Basics, Block, Value, Prototypes}
-use Rattle.paper.specs.Tokens.{Token, name, literal, mark, end, Here, past, is-name, is-word, is-mark, is-end, spelling}
+use Rattle.paper.specs.Syntax.{Basic}
+use Rattle.paper.specs.Tokens.{Token, name, literal, mark, end, Here, past}
 use Rattle.paper.specs.Scanner.{Scanned, token, fault, gap, skip, scan, found, next}
-use Rattle.paper.specs.Reader.{expect, expect-word, names, path, word, basic-at, basics, statements, value, prototypes, read}
+use Rattle.paper.specs.Reader.{expect, expect-word, names, path, word, basic-at, basics, statements, value, prototypes}
 use Rattle.paper.proofs.Laws.Answers.{if-case}
 use Rattle.paper.proofs.Laws.Enough.{ScanGood, ended, some-bytes, faulty, scan-good}
 use Rattle.paper.proofs.Laws.Gives.{Gives, gives, refuses, gives-bind, gives-ok}

@@ -1,6 +1,5 @@
--- Short names for what the grammar allows, with its limits and without, and blocks without places. Assumes nothing.
-use Prim.Native.Nat.{ℕ}
-use Rattle.paper.specs.Syntax.{Path, Basic, Basics, Block, εᴮ, _∷ᴮ_, Statement, assign, Value, basic, link, extends, Prototypes, εᴾ, named, block}
+-- Short names for what the grammar allows, with its limits and without. Assumes nothing.
+use Rattle.paper.specs.Syntax.{Path, Basic, Basics, Statement, Value, Prototypes}
 use Rattle.paper.specs.Grammar.{Reference, AllowedBasic, AllowedBasics, AllowedStatement, AllowedValue, AllowedPrototypes, AtMost32, AnyNumber}
 
 abbrev pub LegalBasic : Basic → Type 0
@@ -38,23 +37,3 @@ Reference32 = Reference AtMost32
 
 abbrev pub Reference∞ : Path → Type 0
 Reference∞ = Reference AnyNumber
-
--- ---- without places
-
-abbrev mutual
-  pub bare : Block → Block
-  bare εᴮ = εᴮ
-  bare (a ∷ᴮ b) = bare-statement a ∷ᴮ bare b
-
-  pub bare-statement : Statement → Statement
-  bare-statement (assign r v) = assign r (bare-value v)
-
-  pub bare-value : Value → Value
-  bare-value (basic p b) = basic 0 b
-  bare-value (link p r) = link 0 r
-  bare-value (extends p ps) = extends 0 (bare-prototypes ps)
-
-  pub bare-prototypes : Prototypes → Prototypes
-  bare-prototypes εᴾ = εᴾ
-  bare-prototypes (named p r ps) = named 0 r (bare-prototypes ps)
-  bare-prototypes (block b ps) = block (bare b) (bare-prototypes ps)

@@ -1,49 +1,12 @@
--- The tokens of a source, in turn. A token is spelt with the place where it has to stand, or with none where any place will do.
--- Assumes nothing.
-use Prim.Native.Nat.{ℕ, zero, suc}
-use mathlib.Core.Bool.{Bool, true, false}
-use mathlib.Core.Path.{_≡_, refl, sym, _∙_, ap}
+-- The tokens of a source as the scanner finds them, in turn: those that are spelt, and any. Assumes nothing.
+use Prim.Native.Nat.{ℕ}
+use mathlib.Core.Path.{_≡_, _∙_, ap}
 use mathlib.Core.List.{List, [], _∷_, _++_}
-use mathlib.Core.Option.{Option, none, some}
-use lib.ListN.{length}
-use Rattle.paper.specs.Answer.{Answer, ok, refused, _>>=_}
-use Rattle.paper.specs.Tokens.{Token, end, Here, is-end}
+use Rattle.paper.specs.Answer.{ok}
+use Rattle.paper.specs.Tokens.{Token, end, Here}
 use Rattle.paper.specs.Scanner.{next}
 use Rattle.paper.specs.Grammar.{Spelt}
-
--- ---- the whole token sequence of a source, each token with its place; or the refusal 2, 4 or 6 of the token that is none
-
-abbrev pub start : List ℕ → Here
-start source = record { place = 0; rest = source }
-
--- the count f is enough if it is more than the length of the rest
-unfoldable pub tokens-from : ℕ → Here → Answer (List (Token × ℕ))
-tokens-from zero at = refused 0 0
-tokens-from (suc f) at = do
-  (t, h, after) ← next at
-  elim (is-end t) [
-    | true ↦ ok []
-    | false ↦ do
-      ts ← tokens-from f after
-      ok ((t, h .place) ∷ ts)
-  ]
-
-unfoldable pub tokens : List ℕ → Answer (List (Token × ℕ))
-tokens source = tokens-from (suc (length source)) (start source)
-
--- ---- tokens that are spelt
-
--- a token that is to stand at o stands at q
-abbrev pub Sits : Option ℕ → ℕ → Type 0
-Sits none q = Unit {0}
-Sits (some p) q = p ≡ q
-
--- the tokens are those spelt, and stand where they are to stand
-abbrev pub Fits : List (Token × ℕ) → List Spelt → Type 0
-Fits [] [] = Unit {0}
-Fits [] (x ∷ xs) = ⊥
-Fits (t ∷ ts) [] = ⊥
-Fits (t ∷ ts) (x ∷ xs) = (t .0 ≡ x .0) × Sits (x .1) (t .1) × Fits ts xs
+use Rattle.paper.specs.Described.{start, Sits}
 
 -- the next tokens at the first place are those spelt, one by one, and the second place is after them
 pub data Reads : Here → List Spelt → Here → Type 0 where
@@ -59,9 +22,9 @@ pub record Tokens (source : List ℕ) (xs : List Spelt) : Type 0 where
   pub ended : next out ≡ ok (end, h, after)
 
 -- the next tokens at the first place are these, wherever they stand, and the second place is after them
-pub data Passes : Here → List Token → Here → Type 0 where
-  none-yet : {at : Here} → Passes at [] at
-  and-then : {at h after out : Here} {t : Token} {ts : List Token} → next at ≡ ok (t, h, after) → Passes after ts out → Passes at (t ∷ ts) out
+pub data Scans : Here → List Token → Here → Type 0 where
+  none-yet : {at : Here} → Scans at [] at
+  and-then : {at h after out : Here} {t : Token} {ts : List Token} → next at ≡ ok (t, h, after) → Scans after ts out → Scans at (t ∷ ts) out
 
 -- ---- laws
 

@@ -1,27 +1,27 @@
 -- What a description is read as spells its tokens. Assumes nothing.
-use Prim.Native.Nat.{ℕ, zero, suc, _+_, _*_, _-_, _≤_}
-use native.Mathlib.Omega.{arith}
+use Prim.Native.Nat.{ℕ, zero, suc, _+_, _*_, _-_}
 use Prim.Native.Char.{Char, code}
 use Prim.Native.String.{String}
 use mathlib.Core.Path.{_≡_, refl, sym, _∙_, ap, subst}
-use mathlib.Core.Bool.{Bool, true, false, true≢false, false≢true, _&&_}
-use mathlib.Core.List.{List, [], _∷_, _++_}
+use mathlib.Core.Bool.{Bool, true, false, false≢true, _&&_}
+use mathlib.Core.List.{List, [], _∷_}
 use mathlib.Core.Option.{Option, none, some}
-use lib.ListN.{length, take}
+use lib.ListN.{length}
 use lib.Dec.{eqb}
 use borrow.Author.Tests.{eqb-true}
-use Rattle.paper.specs.Bytes.{if_then_else_, bytes, same}
-use Rattle.paper.specs.Answer.{Answer, ok, refused, _>>=_, demand}
-use Rattle.paper.specs.Syntax.{Path, Basic, boolean, null, integer, decimal, string, reference, vector, Basics, εⱽ, _∷ⱽ_, Block, εᴮ, _∷ᴮ_, Statement, assign, Value, basic, link, extends, Prototypes, εᴾ, named, block}
-use Rattle.paper.specs.Tokens.{Token, name, literal, mark, end, Here, past, is-name, is-word, is-mark, is-end, spelling}
-use Rattle.paper.specs.Scanner.{Scanned, token, fault, skip, scan, found, next}
-use Rattle.paper.specs.Grammar.{Spelt, sign, word, then-names, spell-path, then-basics, spell-basic, spell-basics, target, then-prototypes, spell, spell-statement, spell-value, spell-prototypes}
+use Rattle.paper.specs.Bytes.{bytes, same}
+use Rattle.paper.specs.Answer.{Answer, ok, refused}
+use Rattle.paper.specs.Syntax.{Path, Basic, boolean, null, reference, vector, Basics, εⱽ, _∷ⱽ_, Block, εᴮ, _∷ᴮ_, assign, Value, basic, link, extends, Prototypes, εᴾ, named, block}
+use Rattle.paper.specs.Tokens.{Token, name, literal, mark, end, Here, is-name, is-word, is-mark, is-end, spelling}
+use Rattle.paper.specs.Scanner.{Scanned, skip, scan, found, next}
+use Rattle.paper.specs.Grammar.{Spelt, sign, word, then-names, spell-path, then-basics, spell-basic, spell-basics, target, then-prototypes, spell, spell-value, spell-prototypes}
+use Rattle.paper.specs.Described.{Sits, start}
 use Rattle.paper.specs.Reader.{expect, expect-word, names, path, basic-at, basics, statements, value, prototypes, read}
 use Rattle.paper.specs.Reader as G
 use Rattle.paper.proofs.Laws.Answers.{if-case}
 use Rattle.paper.proofs.Laws.Gives.{Gives, gives, refuses, gives-bind, gives-demand, gives-ok}
 use Rattle.paper.proofs.Laws.Rescan.{Shape, at-end, a-name, a-decimal, an-integer, a-string, a-mark, a-fault, scan-shape}
-use Rattle.paper.proofs.ReadExactly.Sequence.{Sits, Reads, done, more, start, Tokens, step, join}
+use Rattle.paper.proofs.ReadExactly.Sequence.{Reads, done, Tokens, step, join}
 
 -- ---- answers
 
