@@ -1,0 +1,111 @@
+//! The command: the four operations over files and streams, and the generator of cases.
+
+use second::generate::{cases, Kind};
+use second::operations::{main_table, resolve, run, translate};
+use second::refusal::Refusal;
+use std::io::{self, Read, Write};
+use std::process::ExitCode;
+
+const USAGE: &str = "usage:
+  second translate < description > list
+  second run LIST TABLE > table
+  second main < table > main-table
+  second resolve < description > main-table
+  second generate translate|run|main|resolve SEED COUNT [MAXBYTES]";
+
+fn main() -> ExitCode {
+    let words: Result<Vec<String>, _> = std::env::args_os()
+        .skip(1)
+        .map(|word| word.into_string())
+        .collect();
+    let words = words.unwrap_or_default();
+    let words: Vec<&str> = words.iter().map(String::as_str).collect();
+    match command(&words) {
+        None => usage(),
+        Some(Ok(())) => ExitCode::SUCCESS,
+        Some(Err(fault)) => {
+            eprintln!("second: {fault}");
+            ExitCode::FAILURE
+        }
+    }
+}
+
+/// Nothing where the words are no command.
+fn command(words: &[&str]) -> Option<Done> {
+    match words {
+        ["translate"] => Some(over_input(translate)),
+        ["main"] => Some(over_input(main_table)),
+        ["resolve"] => Some(over_input(resolve)),
+        ["run", list, table] => Some(run_files(list, table)),
+        ["generate", wanted @ ..] => read_wanted(wanted).map(generate),
+        _ => None,
+    }
+}
+
+fn usage() -> ExitCode {
+    eprintln!("{USAGE}");
+    ExitCode::from(2)
+}
+
+type Done = Result<(), String>;
+
+fn over_input(operation: fn(&[u8]) -> Result<Vec<u8>, Refusal>) -> Done {
+    let mut input = Vec::new();
+    let read = io::stdin().lock().read_to_end(&mut input);
+    read.map_err(|error| format!("cannot read standard input: {error}"))?;
+    write_answer(operation(&input))
+}
+
+fn run_files(list: &str, table: &str) -> Done {
+    let list = read_file(list)?;
+    let table = read_file(table)?;
+    write_answer(run(&list, &table))
+}
+
+fn read_file(path: &str) -> Result<Vec<u8>, String> {
+    std::fs::read(path).map_err(|error| format!("cannot read {path}: {error}"))
+}
+
+fn write_answer(answer: Result<Vec<u8>, Refusal>) -> Done {
+    match answer {
+        Ok(output) => write_out(&output),
+        Err(refusal) => write_out(format!("{refusal}\n").as_bytes()),
+    }
+}
+
+fn write_out(bytes: &[u8]) -> Done {
+    let mut out = io::stdout().lock();
+    let written = out.write_all(bytes).and_then(|()| out.flush());
+    written.map_err(|error| format!("cannot write: {error}"))
+}
+
+struct Wanted {
+    kind: Kind,
+    seed: u64,
+    count: usize,
+    cap: usize,
+}
+
+fn read_wanted(words: &[&str]) -> Option<Wanted> {
+    let (kind, seed, count, cap) = match words {
+        [kind, seed, count] => (kind, seed, count, usize::MAX),
+        [kind, seed, count, cap] => (kind, seed, count, cap.parse().ok()?),
+        _ => return None,
+    };
+    Some(Wanted {
+        kind: Kind::from_word(kind)?,
+        seed: seed.parse().ok()?,
+        count: count.parse().ok()?,
+        cap,
+    })
+}
+
+fn generate(wanted: Wanted) -> Done {
+    let mut out = io::BufWriter::new(io::stdout().lock());
+    for case in cases(wanted.kind, wanted.seed, wanted.cap).take(wanted.count) {
+        let written = writeln!(out, "{}", case.line());
+        written.map_err(|error| format!("cannot write: {error}"))?;
+    }
+    out.flush()
+        .map_err(|error| format!("cannot write: {error}"))
+}
