@@ -1,23 +1,139 @@
--- The predicate of well-formed tables holds of description 13's bytes: it is not empty. Assumes nothing.
-use mathlib.Core.Path.{refl}
-use mathlib.Core.List.{[], _∷_}
-use native.Mathlib.Omega.{arith}
+-- The theorems' premises are met: each theorem that has a premise is used on a description of document 01, a table or a step list.
+-- Assumes nothing.
+use Prim.Native.Nat.{ℕ, _≤_}
+use mathlib.Core.Path.{_≡_, refl, _∙_}
+use mathlib.Core.List.{List, [], _∷_}
 use lib.IntN.{pos}
+use lib.Dec.{lit≤}
 use Rattle.paper.specs.Bytes.{bytes}
-use Rattle.paper.specs.Syntax.{integer}
-use Rattle.paper.specs.Store.{∅, entry, basic}
-use Rattle.paper.specs.WellFormed.{IsTable}
+use Rattle.paper.specs.Answer.{ok, refused}
+use Rattle.paper.specs.Syntax.{Block, εᴮ, _∷ᴮ_, assign, link, integer}
+use Rattle.paper.specs.Tokens.{name}
+use Rattle.paper.specs.Written.{Next, NoNext}
+use Rattle.paper.specs.Described.{Describes, Refused}
+use Rattle.paper.specs.Reader.{read}
+use Rattle.paper.specs.Store.{Store, ∅, basic}
+use Rattle.paper.specs.Meaning.{B⟦_⟧, main}
+use Rattle.paper.specs.Layout.{table}
+use Rattle.paper.specs.WellFormed.{IsName, IsStore, IsTable, IsStepList}
+use Rattle.paper.specs.Operations.{translate, run-op, resolve-op}
+use Rattle.paper.proofs.Checked.{_≔_⨾_, _≔⟨_⟩⨾_, thirteen, thirteen-table}
+use Rattle.paper.proofs.Decoded.{decoded}
+use Rattle.paper.proofs.Demands.{demands}
+use Rattle.paper.proofs.Demands.Answers.{tabled}
+use Rattle.paper.proofs.Demands.Order.{run-rest}
+use Rattle.paper.proofs.Legal.{legal}
+use Rattle.paper.proofs.Legal.Bounds.{IsBounded, of-table}
+use Rattle.paper.proofs.Legal.Read.{WellRead}
 use Rattle.paper.proofs.Open.{all}
+use Rattle.paper.proofs.ReadExactly.{read-exactly}
+use Rattle.paper.proofs.Scanned.{scanned}
 
-one : IsTable (
-    0x02 ∷ 0 ∷ 0 ∷ 0 ∷ 0x2a ∷ 0 ∷ 0 ∷ 0 ∷ 0x01 ∷ 0 ∷ 0 ∷ 0 ∷ 0x18 ∷ 0 ∷ 0 ∷ 0 ∷ 0x02 ∷ 0 ∷ 0 ∷ 0 ∷ 0x28 ∷ 0 ∷ 0 ∷ 0
-    ∷ 0x03 ∷ 0 ∷ 0x01 ∷ 0 ∷ 0 ∷ 0 ∷ 0x01 ∷ 0 ∷ 0x01 ∷ 0 ∷ 0 ∷ 0 ∷ 0 ∷ 0 ∷ 0 ∷ 0 ∷ 0x01 ∷ 0x78 ∷ [])
-    (entry (bytes "x") (basic (integer (pos 1))) ∅)
+-- ---- description 14: `y x;` over a table holding x 1
+
+abbrev fourteen : List ℕ
+fourteen = bytes "y x;"
+
+abbrev meant : Block
+meant = assign (bytes "y" ∷ []) (link 2 (bytes "x" ∷ [])) ∷ᴮ εᴮ
+
+abbrev before : Store
+before = "x" ≔ 1 ⨾ ∅
+
+abbrev after : Store
+after = "x" ≔ 1 ⨾ "y" ≔ 1 ⨾ ∅
+
+is-read : read fourteen ≡ ok meant
 unfolding all
-one = record {
-  laid-out = refl;
-  store = (record { whole = refl; free = refl }, refl, tt, tt);
-  depth = omega arith;
-  nodes = omega arith;
-  text = omega arith;
-}
+is-read = refl
+
+list : List ℕ
+unfolding all
+list = elim (translate fourteen) [ ok b ↦ b | refused n p ↦ [] ]
+
+is-translated : translate fourteen ≡ ok list
+unfolding all list
+is-translated = refl
+
+-- decoded: description 13's bytes are a table, and this list is a step list
+is-table : IsTable thirteen-table ("x" ≔ 1 ⨾ ∅)
+unfolding all
+is-table = decoded .tables thirteen-table ("x" ≔ 1 ⨾ ∅) .0 refl
+
+is-step-list : IsStepList list meant
+unfolding all list
+is-step-list = decoded .step-lists list meant .0 refl
+
+one-store : (s : Store) → IsTable thirteen-table s → s ≡ ("x" ≔ 1 ⨾ ∅)
+one-store s h = decoded .one-store s ("x" ≔ 1 ⨾ ∅) thirteen-table h is-table
+
+one-block : (d : Block) → IsStepList list d → d ≡ meant
+one-block d h = decoded .one-block d meant list h is-step-list
+
+-- legal: the block read, what it gives, its main component, and the bounds
+is-legal : WellRead meant
+is-legal = legal .read fourteen meant is-read
+
+is-evaluated : B⟦ meant ⟧ [] before ≡ ok after
+unfolding all
+is-evaluated = refl
+
+is-bounded : IsBounded before
+is-bounded = of-table is-table
+
+after-bounded : IsBounded after
+after-bounded = legal .bounds meant before after (is-legal .blocks) is-bounded is-evaluated
+
+after-store : IsStore after
+after-store = legal .store meant [] before after (is-legal .blocks) tt (is-bounded .store) is-evaluated
+
+is-name : IsName (bytes "x")
+unfolding all
+is-name = record { whole = refl; free = refl }
+
+put-again : IsStore after
+unfolding all
+put-again = legal .put before (bytes "y") (basic (integer (pos 1))) (record { whole = refl; free = refl }) tt (is-bounded .store)
+
+bound-again : IsStore after
+unfolding all
+bound-again = legal .bind 0 (bytes "y" ∷ []) (basic (integer (pos 1))) before after (record { whole = refl; free = refl }, tt) tt (is-bounded .store) refl
+
+main-bounded : IsBounded ∅
+unfolding all
+main-bounded = legal .main ("sfConfig" ≔⟨ ∅ ⟩⨾ ∅) ∅ (of-table (decoded .tables (table ("sfConfig" ≔⟨ ∅ ⟩⨾ ∅)) ("sfConfig" ≔⟨ ∅ ⟩⨾ ∅) .0 refl)) refl
+
+-- demands: the run of the translated list over that table, in bytes
+is-run : run-op list thirteen-table 32792 65536 65536 ≡ ok (table after)
+unfolding all tabled
+is-run = demands .runs-as-meant fourteen list thirteen-table before 32792 65536 65536 (lit≤ tt) (lit≤ tt) (lit≤ tt) is-translated is-table ∙ refl
+
+-- and resolve's three in turn, on description 13
+is-resolved : resolve-op thirteen 32792 65536 65536 65536 ≡ ok thirteen-table
+unfolding all
+is-resolved =
+    demands .resolves-in-turn thirteen 32792 65536 65536 65536 53272 65536 32792 65536 65536
+    (lit≤ tt) (lit≤ tt) (lit≤ tt) (lit≤ tt) (lit≤ tt) (lit≤ tt) (lit≤ tt) (lit≤ tt) (lit≤ tt) ∙ refl
+
+-- a starting table that is none gives 10
+no-table : (s : Store) → IsTable [] s → ⊥
+unfolding all list run-rest
+no-table = demands .run-10 list [] meant is-step-list .0 refl
+
+-- ---- scanned and read exactly
+
+first-token : Next (record { place = 0; rest = fourteen }) (name (bytes "y")) (record { place = 0; rest = fourteen }) (record { place = 1; rest = bytes " x;" })
+unfolding all
+first-token = scanned .a-token _ _ _ _ .0 refl
+
+no-token : NoNext (record { place = 0; rest = bytes " #" }) 2 1
+unfolding all
+no-token = scanned .no-token _ _ _ .0 refl
+
+described : Describes fourteen meant
+described = read-exactly .accepted fourteen meant .0 is-read
+
+-- 2, 3, 4, the scanner's 6 at their places; 5 and the grammar's 6 stand in Checked/Edges as answers of the reader
+refusals : Refused (bytes "y x; #") 2 5 × Refused (bytes "y x y") 3 4 × Refused (bytes "y 9223372036854775808;") 4 2
+unfolding all
+refusals = (read-exactly .refused _ _ _ .0 refl, read-exactly .refused _ _ _ .0 refl, read-exactly .refused _ _ _ .0 refl)
