@@ -2,6 +2,7 @@
 -- the steps; and description 13 in its bytes, with its step list's figures. All of it computes. Assumes nothing.
 pub mod Edges
 pub mod Decoding
+pub mod Alike
 use Prim.Native.Nat.{ℕ}
 use Prim.Native.String.{String}
 use mathlib.Core.Path.{_≡_, refl}

@@ -9,9 +9,8 @@ function header(file) {
     print "use Rattle.paper.specs.Answer.{ok, refused}" > file
     print "use Rattle.paper.specs.Operations.{translate-op, run-op, main-op, resolve-op}" > file
     print "use Rattle.paper.proofs.Open.{all}" > file
-    print "use Rattle.bridge.proofs.Agree.{hex, alike}" > file
+    print "use Rattle.paper.proofs.Checked.Alike.{hex, alike}" > file
 }
-BEGIN { print "pub mod Agree" > (dir "/proofs/Lib.antt") }
 {
     if (n % 50 == 0) {
         if (file != "") close(file)

@@ -1,4 +1,4 @@
--- Bytes written in hex, and two answers that a computed test finds alike. Assumes nothing.
+-- For the bridge to the second implementation: bytes written in hex, and two answers that a computed test finds alike. Assumes nothing.
 use Prim.Native.Nat.{ℕ, _+_, _*_, _-_}
 use Prim.Native.Char.{Char, code}
 use Prim.Native.String.{String, [], _∷_}
