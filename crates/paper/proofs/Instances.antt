@@ -15,7 +15,7 @@ use Rattle.paper.specs.Reader.{read}
 use Rattle.paper.specs.Store.{Store, ∅, basic}
 use Rattle.paper.specs.Meaning.{B⟦_⟧, main}
 use Rattle.paper.specs.Layout.{table}
-use Rattle.paper.specs.WellFormed.{IsName, IsStore, IsTable, IsStepList}
+use Rattle.paper.specs.WellFormed.{IsStore, IsTable, IsStepList}
 use Rattle.paper.specs.Operations.{translate, run-op, resolve-op}
 use Rattle.paper.proofs.Checked.{_≔_⨾_, _≔⟨_⟩⨾_, thirteen, thirteen-table}
 use Rattle.paper.proofs.Decoded.{decoded}
@@ -28,6 +28,7 @@ use Rattle.paper.proofs.Legal.Read.{WellRead}
 use Rattle.paper.proofs.Open.{all}
 use Rattle.paper.proofs.ReadExactly.{read-exactly}
 use Rattle.paper.proofs.Scanned.{scanned}
+use Rattle.paper.proofs.Scanned.Alone.{is-name}
 
 -- ---- description 14: `y x;` over a table holding x 1
 
@@ -87,17 +88,13 @@ after-bounded = legal .bounds meant before after (is-legal .blocks) is-bounded i
 after-store : IsStore after
 after-store = legal .store meant [] before after (is-legal .blocks) tt (is-bounded .store) is-evaluated
 
-is-name : IsName (bytes "x")
-unfolding all
-is-name = record { whole = refl; free = refl }
-
 put-again : IsStore after
 unfolding all
-put-again = legal .put before (bytes "y") (basic (integer (pos 1))) (record { whole = refl; free = refl }) tt (is-bounded .store)
+put-again = legal .put before (bytes "y") (basic (integer (pos 1))) (is-name (bytes "y") refl refl) tt (is-bounded .store)
 
 bound-again : IsStore after
 unfolding all
-bound-again = legal .bind 0 (bytes "y" ∷ []) (basic (integer (pos 1))) before after (record { whole = refl; free = refl }, tt) tt (is-bounded .store) refl
+bound-again = legal .bind 0 (bytes "y" ∷ []) (basic (integer (pos 1))) before after (is-name (bytes "y") refl refl, tt) tt (is-bounded .store) refl
 
 main-bounded : IsBounded ∅
 unfolding all

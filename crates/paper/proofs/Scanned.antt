@@ -24,6 +24,7 @@ pub mod Skips
 pub mod Strings
 pub mod Numbers
 pub mod Words
+pub mod Alone
 
 -- ---- limits
 

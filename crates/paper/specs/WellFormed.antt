@@ -8,7 +8,7 @@ use lib.ListN.{length}
 use lib.Dec.{T}
 use Rattle.paper.specs.Syntax.{Name, Path, Basic, boolean, null, integer, decimal, string, reference, vector, Basics, εⱽ, _∷ⱽ_, Block, εᴮ, _∷ᴮ_, Statement, assign, Value, basic, link, extends, Prototypes, εᴾ, named, block}
 use Rattle.paper.specs.Tokens.{reserved, member, in-range, name, literal}
-use Rattle.paper.specs.Scanner.{scan, token}
+use Rattle.paper.specs.Written.{Written}
 use Rattle.paper.specs.Grammar.{Some, openings}
 use Rattle.paper.specs.Store.{Store, ∅, entry, component, lookup}
 use Rattle.paper.specs.Store as S
@@ -18,10 +18,15 @@ use Rattle.paper.specs.StepLayout.{all-rows, step-list}
 
 -- ---- names, paths, basics
 
--- "names and decimals as under Tokens and not reserved": all its bytes are one name token
+-- "names and decimals as under Tokens and not reserved"
 pub record IsName (n : Name) : Type 0 where
-  pub whole : scan n ≡ token (name n) (length n)
+  pub written : Written n (name n)
+  pub short : length n ≤ 255
   pub free : member n reserved ≡ false
+
+pub record IsDecimal (t : List ℕ) : Type 0 where
+  pub written : Written t (literal (decimal t))
+  pub short : length t ≤ 4095
 
 abbrev pub AreNames : Path → Type 0
 AreNames [] = Unit {0}
@@ -39,7 +44,7 @@ abbrev mutual
   IsBasic (boolean b) = Unit {0}
   IsBasic null = Unit {0}
   IsBasic (integer z) = T (in-range z)
-  IsBasic (decimal t) = scan t ≡ token (literal (decimal t)) (length t)
+  IsBasic (decimal t) = IsDecimal t
   IsBasic (string t) = length t ≤ 4095
   IsBasic (reference r) = IsPath r
   IsBasic (vector bs) = AreBasic bs

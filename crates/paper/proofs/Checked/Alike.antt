@@ -3,7 +3,7 @@ use Prim.Native.Nat.{ℕ, _+_, _*_, _-_}
 use Prim.Native.Char.{Char, code}
 use Prim.Native.String.{String, [], _∷_}
 use mathlib.Core.Path.{_≡_, refl}
-use mathlib.Core.Bool.{Bool, true, false, _&&_, true≢false, false≢true}
+use mathlib.Core.Bool.{Bool, true, false, _&&_, false≢true}
 use mathlib.Core.List.{List, [] as []ᴸ, _∷_ as _∷ᴸ_}
 use lib.Dec.{leb, eqb}
 use borrow.Author.Tests.{eqb-true}

@@ -18,11 +18,12 @@ use Rattle.paper.specs.Syntax.{Path, boolean, null, integer, decimal, st
 use Rattle.paper.specs.Tokens.{name, literal, mark, end, in-range}
 use Rattle.paper.specs.Scanner.{scan, Scanned, token, fault}
 use Rattle.paper.specs.Layout.{little, name-text, names-text, path-text, long-text, complement}
-use Rattle.paper.specs.WellFormed.{IsName, AreNames, IsPath}
+use Rattle.paper.specs.WellFormed.{IsName, AreNames, IsPath, IsDecimal}
 use Rattle.paper.specs.Decoder.{number-of, one-name, a-decimal, one-decimal, name-of, names-of, path-of, long-of, decimal-of, string-of, signed, Raw, raw-of}
 use Rattle.paper.proofs.Laws.Answers.{if-case}
 use Rattle.paper.proofs.Laws.Found.{Found, nothing, found, found-bind, found-require}
-use Rattle.paper.proofs.Laws.Rescan.{named-whole, decimal-whole, decimal-short}
+use Rattle.paper.proofs.Laws.Rescan.{named-whole, decimal-whole}
+use Rattle.paper.proofs.Scanned.Alone.{is-name, name-scanned, is-decimal, decimal-scanned}
 
 -- what a reader found in s: x, of which P holds, was in front
 pub record Reads {A : Type 0} (enc : A → List ℕ) (P : A → Type 0) (s : List ℕ) (r : A × List ℕ) : Type 0 where
@@ -94,14 +95,14 @@ name-sound (k ∷ s) =
     let l : length (take k s) ≡ k = length-take-le k s (leb-true _ _ e₁) in
     found (record {
       front = rw l (ap (k ∷_) (sym (take-append-drop k s)));
-      good = record { whole = one-name-sound (take k s) k _ refl e₂ (sym l); free = not-true _ e₃ };
+      good = is-name (take k s) (one-name-sound (take k s) k _ refl e₂ (sym l)) (not-true _ e₃);
     }))))
 
 name-complete : (n t : List ℕ) → IsName n → name-of (name-text n ++ t) ≡ some (n, t)
 unfolding name-of name-text _>>=_ require
 name-complete n t h =
     let l : length n ≤ length (n ++ t) = simp length-append (omega arith) in
-    rw (le-leb _ _ l, take-append-seam n t, drop-append-seam n t, one-name-complete n (h .whole), h .free)
+    rw (le-leb _ _ l, take-append-seam n t, drop-append-seam n t, one-name-complete n (name-scanned h), h .free)
 
 pub exact-name : Exact name-of name-text IsName
 exact-name = record { sound = name-sound; complete = name-complete }
@@ -170,9 +171,6 @@ long-complete u t h =
     let l : length u ≤ length (u ++ t) = simp length-append (omega arith) in
     rw (append-assoc (little 2 (length u)) u t, number-complete 2 (length u) (u ++ t) (omega arith), le-leb _ _ l, take-append-seam u t, drop-append-seam u t)
 
-abbrev pub IsDecimal : List ℕ → Type 0
-IsDecimal t = scan t ≡ token (literal (decimal t)) (length t)
-
 one-decimal-sound : (n : List ℕ) (x : Scanned) → scan n ≡ x → one-decimal (length n) x ≡ true → scan n ≡ token (literal (decimal n)) (length n)
 unfolding one-decimal a-decimal
 one-decimal-sound n (token (literal (decimal m)) j) e t = decimal-whole n m j e (eqb-true j (length n) t)
@@ -193,8 +191,8 @@ exact-decimal = record {
   sound = λ s.
       found-bind _ (long-sound s) (λ x h.
       found-require _ _ (λ e.
-      found (record { front = h .front; good = one-decimal-sound (x .0) _ refl e })));
-  complete = λ u t h. let l = decimal-short u h in rw (long-complete u t (omega arith), h, eq-eqb (length u) _ refl);
+      found (record { front = h .front; good = is-decimal (x .0) (one-decimal-sound (x .0) _ refl e) })));
+  complete = λ u t h. let l = h .short in rw (long-complete u t (omega arith), decimal-scanned h, eq-eqb (length u) _ refl);
 }
 
 abbrev pub IsString : List ℕ → Type 0

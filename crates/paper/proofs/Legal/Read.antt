@@ -24,6 +24,8 @@ use Rattle.paper.specs.Operations.{translated, translate}
 use Rattle.paper.proofs.Laws.Answers.{if-case}
 use Rattle.paper.proofs.Laws.Enough.{enough}
 use Rattle.paper.proofs.Laws.Gives.{Gives, gives, refuses, gives-bind, gives-demand, gives-ok, gives-refused}
+use Rattle.paper.proofs.Scanned.Alone.{is-decimal}
+use Rattle.paper.proofs.Scanned.Alone as Alone
 use Rattle.paper.proofs.Laws.Rescan.{Shape, at-end, a-name, a-decimal, an-integer, a-string, a-mark, a-fault, scan-shape, name-again, decimal-again}
 
 -- a refusal of a description has a number from 1 to 6 (or, where a reader's count runs out, 0)
@@ -79,7 +81,7 @@ found-in N h x i (a-name {n = n} s) =
     let l = some-left (h .rest) (s .there) in
     let p : h .place < N = omega (arith, i .ends) in
     gives {x = (name (take n (h .rest)), h, past n h)} (record { good = name-again (h .rest) n s; after = past-in N n h i; placed = λ e. p })
-found-in N h x i (a-decimal {n = n} s) = gives {x = (literal (decimal (take n (h .rest))), h, past n h)} (record { good = (decimal-again (h .rest) n s, refl); after = past-in N n h i; placed = λ e. absurd (false≢true e) })
+found-in N h x i (a-decimal {n = n} s) = gives {x = (literal (decimal (take n (h .rest))), h, past n h)} (record { good = (is-decimal _ (decimal-again (h .rest) n s), refl); after = past-in N n h i; placed = λ e. absurd (false≢true e) })
 found-in N h x i (an-integer {z = z} {n = n} s) = gives {x = (literal (integer z), h, past n h)} (record { good = (T-of _ s, refl); after = past-in N n h i; placed = λ e. absurd (false≢true e) })
 found-in N h x i (a-string {t = u} {n = n} s) = gives {x = (literal (string u), h, past n h)} (record { good = (s, refl); after = past-in N n h i; placed = λ e. absurd (false≢true e) })
 found-in N h x i (a-mark {m = m} {n = n}) = gives {x = (mark m, h, past n h)} (record { good = tt; after = past-in N n h i; placed = λ e. absurd (false≢true e) })
@@ -92,7 +94,7 @@ next-in N h i = gives-bind _ (skip-in N (left h) h i) (λ h′ j. found-in N h�
 -- a name that is read is a name
 is-name-name : (t : Token) → Good t → is-name t ≡ true → IsName (spelling t)
 unfolding is-name spelling
-is-name-name (name n) g e = record { whole = g; free = not-true _ e }
+is-name-name (name n) g e = Alone.is-name n g (not-true _ e)
 is-name-name (literal b) g e = absurd (false≢true e)
 is-name-name (mark m) g e = absurd (false≢true e)
 is-name-name end g e = absurd (false≢true e)
