@@ -1,21 +1,27 @@
 -- Theorem 5, demands: what the operations are asked to do, as statements about their answers. Assumes nothing.
 pub mod Answers
 pub mod Order
+pub mod Resolving
 use Prim.Native.Nat.{ℕ, _≤_}
 use mathlib.Core.Path.{_≡_}
 use mathlib.Core.List.{List}
 use mathlib.Core.Logic.{_↔_}
-use Rattle.paper.specs.Answer.{ok, refused, _>>=_}
+use Rattle.paper.specs.Answer.{Answer, ok, refused, _>>=_}
 use Rattle.paper.specs.Syntax.{Block}
 use Rattle.paper.specs.Store.{Store, ∅}
 use Rattle.paper.specs.Layout.{table}
 use Rattle.paper.specs.WellFormed.{IsTable, IsStepList}
 use Rattle.paper.specs.Operations.{evaluated, translate, resolve, translate-op, run-op, main-op, resolve-op}
+use Rattle.paper.specs.Resolved.{Resolves}
 use Rattle.paper.proofs.Laws.Gives.{gives-refused}
 use Answers.{tabled, runs-as-meant, resolve-is, TranslateNumber, RunNumber, MainNumber, ResolveNumber, translate-gives, run-gives, main-gives, resolve-gives}
+use Resolving.{resolves-exactly}
 use Order.{Lent, run-rest, main-rest, translate-lent, run-lent, main-lent, resolve-lent, run-9, run-10}
 
 pub record Demands : Type 0 where
+  -- demand 2: a description is accepted exactly when document 01 allows it, with the table that the semantics defines for sfConfig;
+  -- else the refusal is the first that applies, at its place
+  pub resolves-exactly : (source : List ℕ) (a : Answer (List ℕ)) → (resolve source ≡ a) ↔ Resolves source a
   -- demand 3: over any well-formed table, a translated list gives the bytes that evaluating the source over that table gives, or its refusal
   pub runs-as-meant : (source list start : List ℕ) (s : Store) (o w₁ w₂ : ℕ) → 32792 ≤ o → 65536 ≤ w₁ → 65536 ≤ w₂ → translate source ≡ ok list → IsTable start s
       → run-op list start o w₁ w₂ ≡ tabled (evaluated source s)
@@ -40,6 +46,7 @@ pub record Demands : Type 0 where
 pub demands : Demands
 demands =
     record {
+      resolves-exactly = resolves-exactly;
       runs-as-meant = runs-as-meant;
       resolves-in-turn = resolve-is;
       translate-numbers = λ source o w n p e. gives-refused (translate-gives source o w) e;

@@ -17,7 +17,8 @@ use Rattle.paper.specs.Meaning.{B⟦_⟧, main}
 use Rattle.paper.specs.Layout.{table}
 use Rattle.paper.specs.WellFormed.{IsStore, IsTable, IsStepList}
 use Rattle.paper.specs.Operations.{translate, run-op, resolve-op}
-use Rattle.paper.proofs.Checked.{_≔_⨾_, _≔⟨_⟩⨾_, thirteen, thirteen-table}
+use Rattle.paper.specs.Resolved.{Resolves}
+use Rattle.paper.proofs.Checked.{checked, _≔_⨾_, _≔⟨_⟩⨾_, thirteen, thirteen-table}
 use Rattle.paper.proofs.Decoded.{decoded}
 use Rattle.paper.proofs.Demands.{demands}
 use Rattle.paper.proofs.Demands.Answers.{tabled}
@@ -111,6 +112,10 @@ unfolding all
 is-resolved =
     demands .resolves-in-turn thirteen 32792 65536 65536 65536 53272 65536 32792 65536 65536
     (lit≤ tt) (lit≤ tt) (lit≤ tt) (lit≤ tt) (lit≤ tt) (lit≤ tt) (lit≤ tt) (lit≤ tt) (lit≤ tt) ∙ refl
+
+-- demand 2, on description 13
+is-accepted : Resolves thirteen (ok thirteen-table)
+is-accepted = demands .resolves-exactly thirteen (ok thirteen-table) .0 (checked .in-bytes)
 
 -- a starting table that is none gives 10
 no-table : (s : Store) → IsTable [] s → ⊥

@@ -24,3 +24,5 @@ pub mod TableDecoder
 pub mod StepDecoder
 -- the four operations, Refusal numbers
 pub mod Operations
+-- demand 2
+pub mod Resolved
