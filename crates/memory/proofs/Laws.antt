@@ -236,6 +236,41 @@ stored-inside s at p a k b e h l =
     ∙ ap (sets s at) (sym (stored-sets a k b l))
     ∙ sym (stored-sets s at (stored a k b) (rw (length-stored a k b) h))
 
+-- two stores that lie apart may change places
+pub stored-apart : (s : List ℕ) (a : ℕ) (x : List ℕ) (b : ℕ) (y : List ℕ) → a + length x ≤ b → b + length y ≤ length s → stored (stored s b y) a x ≡ stored (stored s a x) b y
+stored-apart s a x b y l h =
+    ext-getD 0 _ _ (length-stored (stored s b y) a x ∙ length-stored s b y ∙ sym (length-stored (stored s a x) b y ∙ length-stored s a x)) (λ k _. at k (fit (suc k) a))
+  where
+    -- the byte k, before a, in x, between, in y, and after
+    in-x : (i : ℕ) → i < length x → getD (stored (stored s b y) a x) (a + i) 0 ≡ getD (stored (stored s a x) b y) (a + i) 0
+    in-x i j =
+        byte-stored (stored s b y) a x i (rw (length-stored s b y) (omega arith)) j
+        ∙ sym (byte-other (stored s a x) b y (a + i) (inl (omega arith)) ∙ byte-stored s a x i (omega arith) j)
+
+    in-y : (i : ℕ) → i < length y → getD (stored (stored s b y) a x) (b + i) 0 ≡ getD (stored (stored s a x) b y) (b + i) 0
+    in-y i j =
+        byte-other (stored s b y) a x (b + i) (inr (omega arith)) ∙ byte-stored s b y i h j
+        ∙ sym (byte-stored (stored s a x) b y i (rw (length-stored s a x) h) j)
+
+    outside : (k : ℕ) → (k < a) ⊎ (a + length x ≤ k) → (k < b) ⊎ (b + length y ≤ k) → getD (stored (stored s b y) a x) k 0 ≡ getD (stored (stored s a x) b y) k 0
+    outside k p q = byte-other (stored s b y) a x k p ∙ byte-other s b y k q ∙ sym (byte-other (stored s a x) b y k q ∙ byte-other s a x k p)
+
+    past-y : (k : ℕ) → a + length x ≤ k → b ≤ k → (suc k ≤ b + length y) ⊎ (b + length y < suc k) → getD (stored (stored s b y) a x) k 0 ≡ getD (stored (stored s a x) b y) k 0
+    past-y k p q (inl r) = let e : b + (k - b) ≡ k = omega arith in subst (λ j. getD (stored (stored s b y) a x) j 0 ≡ getD (stored (stored s a x) b y) j 0) e (in-y (k - b) (omega arith))
+    past-y k p q (inr r) = outside k (inr p) (inr (omega arith))
+
+    past-x : (k : ℕ) → a + length x ≤ k → (suc k ≤ b) ⊎ (b < suc k) → getD (stored (stored s b y) a x) k 0 ≡ getD (stored (stored s a x) b y) k 0
+    past-x k p (inl r) = outside k (inr p) (inl r)
+    past-x k p (inr r) = past-y k p (omega arith) (fit (suc k) (b + length y))
+
+    from-a : (k : ℕ) → a ≤ k → (suc k ≤ a + length x) ⊎ (a + length x < suc k) → getD (stored (stored s b y) a x) k 0 ≡ getD (stored (stored s a x) b y) k 0
+    from-a k p (inl r) = let e : a + (k - a) ≡ k = omega arith in subst (λ j. getD (stored (stored s b y) a x) j 0 ≡ getD (stored (stored s a x) b y) j 0) e (in-x (k - a) (omega arith))
+    from-a k p (inr r) = past-x k (omega arith) (fit (suc k) b)
+
+    at : (k : ℕ) → (suc k ≤ a) ⊎ (a < suc k) → getD (stored (stored s b y) a x) k 0 ≡ getD (stored (stored s a x) b y) k 0
+    at k (inl r) = outside k (inl r) (inl (omega arith))
+    at k (inr r) = from-a k (omega arith) (fit (suc k) (a + length x))
+
 -- ---- at the front
 
 pub stored-front : (s b : List ℕ) → length b ≤ length s → stored s 0 b ≡ b ++ drop (length b) s
