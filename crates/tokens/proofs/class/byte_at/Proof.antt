@@ -1,0 +1,27 @@
+use mathlib.Core.Path.{_∙_, sym}
+use Rattle.tokens.proofs.At.{at-in, at-out}
+use borrow.Author.Needs.{needs}
+use Rattle.tokens.proofs.class.byte_at.Statement.{statement}
+use Rattle.tokens.proofs.class.byte_at.Tie as tie
+use Rattle.tokens.proofs.class.byte_at.Reads as reads
+use Rattle.tokens.proofs.class.byte_at.Lts as lts
+use Rattle.tokens.proofs.class.wide.Reads as wide-reads
+
+-- src/class.rt:38:21
+shared-slice-read-wide : tie.Need-shared-slice-read-wide
+shared-slice-read-wide c = search needs
+
+-- src/class.rt:38:9
+wide-requires : tie.Need-wide-requires
+wide-requires c κs = search needs
+
+-- src/class.rt:38:9
+returns : tie.Need-returns
+returns c = let a = c .before .before .before .before .args in c .wide .ensures .0 ∙ at-in (a .s .now) (a .i) (c .before .before .if1 .taken)
+
+-- src/class.rt:34:1
+returns-2 : tie.Need-returns-2
+returns-2 c = sym (at-out (c .before .before .args .s .now) (c .before .before .args .i) (c .if1 .left))
+
+pub byte-at-spec : {M : Type 1} → statement M
+byte-at-spec = tie.close (tie.spec shared-slice-read-wide wide-requires returns returns-2)

@@ -1,0 +1,17 @@
+use borrow.Author.Needs.{needs}
+use native.Mathlib.Omega.{arith}
+use mathlib.Core.Path.{_≡_, refl, sym, ap, _∙_}
+use borrow.Author.Tests.{le-leb, lt-leb}
+use Rattle.tokens.proofs.text.digit_to.Statement.{statement}
+use Rattle.tokens.proofs.text.digit_to.Tie as tie
+use Rattle.tokens.proofs.text.digit_to.Reads as reads
+use Rattle.tokens.proofs.text.digit_to.Lts as lts
+
+returns : tie.Need-returns
+returns c = simp (lt-leb 48 (c .before .args .b) (c .if1 .taken))
+
+returns-2 : tie.Need-returns-2
+returns-2 c = simp (le-leb 48 (c .before .args .b) (c .if1 .left))
+
+pub digit-to-spec : {M : Type 1} → statement M
+digit-to-spec = tie.close (tie.spec returns returns-2)
