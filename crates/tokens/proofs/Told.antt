@@ -28,6 +28,7 @@ use Rattle.tokens.proofs.Table.{agree, agreed, every, entry}
 use Rattle.tokens.proofs.Words.{same-eq, same-refl, eq-same, ne-same}
 use Rattle.tokens.proofs.Skips.{Ending, at-token, at-comment, ending}
 use Rattle.tokens.proofs.Shapes.{Shape, at-end, a-name, an-integer, a-decimal, a-string, a-mark, a-fault, shape}
+use Rattle.tokens.proofs.At.{rest}
 use Rattle.tokens.proofs.Nexts.{from, next-token, next-comment}
 
 -- ---- the places move with the rest of the source
@@ -345,3 +346,23 @@ word-tests i h = (
   ap not (reserved-member (getD reserved i []) reserved i h refl),
   λ w k l e. ap (same (getD reserved i [])) e ∙ reserved-apart i k h l,
 )
+
+-- ---- in short, for a caller that has read `&src[p..]`
+
+module _ (src : List ℕ) (p : ℕ) (inside : p ≤ length src) where
+  -- the checker's list for `&src[p..]`
+  pub told-at : (r : code.Token) → r ≡ shown (next (from 0 (take (length src - p) (drop p src)))) → Told src p r
+  told-at r e = told src p inside r (e ∙ ap (λ (s : List ℕ). shown (next (from 0 s))) (rest src p))
+
+  -- where a token of any kind lies: some of the source, unless it is the end
+  lies : (k : Kind) (a e : ℕ) → Told src p (Found k a e) → (a ≤ e) × (p + e ≤ length src) × ((k ≡ End → ⊥) → a < e)
+  lies Name a e t = (t .stands .ahead, t .stands .within, λ _. t .some)
+  lies (Word i) a e t = (t .stands .ahead, t .stands .within, λ _. t .some)
+  lies (Integer v) a e t = (t .stands .ahead, t .stands .within, λ _. t .some)
+  lies Decimal a e t = (t .stands .ahead, t .stands .within, λ _. t .some)
+  lies (Text n) a e t = (t .stands .ahead, t .stands .within, λ _. t .some)
+  lies (Mark b) a e t = (t .stands .ahead, t .stands .within, λ _. omega (arith, t .one))
+  lies End a e t = (t .stands .ahead, t .stands .within, λ f. absurd (f refl))
+
+  pub bounds : (k : Kind) (a e : ℕ) → Found k a e ≡ shown (next (from 0 (take (length src - p) (drop p src)))) → (a ≤ e) × (p + e ≤ length src) × ((k ≡ End → ⊥) → a < e)
+  bounds k a e h = lies k a e (told-at (Found k a e) h)
