@@ -1,15 +1,15 @@
 -- The table of classes says what the paper's classes say: one test, computed over its 256 entries. Assumes nothing.
 use mathlib.Core.Path.{_≡_, refl}
-use mathlib.Core.Bool.{Bool, true, false, _&&_}
+use mathlib.Core.Bool.{Bool, true, _&&_}
 use mathlib.Core.List.{List}
-use Prim.Native.Nat.{ℕ, _<_}
+use Prim.Native.Nat.{ℕ}
 use lib.Dec.{eqb, leb}
 use lib.ListN.{getD}
 use Rattle.paper.specs.Bytes.{bytes, is, among}
 use Rattle.paper.specs.Tokens.{blank, digit, starts, goes-on}
 use Rattle.paper.proofs.Scanned.Classes.{and-left, and-right}
 use Rattle.tokens.specs.Class.{Class, Classed}
-use Rattle.tokens.proofs.Table.{agree, agreed, every, entry}
+use Rattle.tokens.proofs.Table.{agree, agreed, entry}
 
 -- the code's table
 abbrev pub classes : List ℕ

@@ -1,16 +1,16 @@
 -- Laws of `decode`: what the string token at the front means, and where it is written. Assumes nothing.
-use mathlib.Core.Path.{_≡_, refl, sym, ap, ap₂, _∙_}
+use mathlib.Core.Path.{_≡_, refl, sym, ap, _∙_}
 use mathlib.Core.Bool.{Bool, true, false, _||_, true≢false, false≢true}
-use mathlib.Core.List.{List, [], _∷_, _++_}
+use mathlib.Core.List.{List, [], _++_}
 use mathlib.Core.Option.{Option, none, some}
-use Prim.Native.Nat.{ℕ, zero, suc, _+_, _-_, _≤_, _<_}
+use Prim.Native.Nat.{ℕ, _+_, _-_, _≤_, _<_}
 use native.Mathlib.Omega.{arith}
 use lib.ListN.{length, take, drop}
-use lib.Seq.{paste, paste-zero}
+use lib.Seq.{paste-zero}
 use lib.Dec.{leb, lit<}
 use borrow.Author.Tests.{eq-eqb, ne-eqb, le-leb, lt-leb}
-use Rattle.paper.specs.Bytes.{at, is, among, if_then_else_}
-use Rattle.paper.specs.Tokens.{starts, digit, goes-on}
+use Rattle.paper.specs.Bytes.{at, is, if_then_else_}
+use Rattle.paper.specs.Tokens.{starts, digit}
 use Rattle.paper.specs.Scanner.{Scanned, named, number, text, scan}
 use Rattle.paper.proofs.Laws.Answers.{if-case}
 use Rattle.tokens.specs.declared.text.Quoted.the-variants.{Closed, Unclosed}

@@ -1,25 +1,26 @@
 -- Laws of digits and of the numbers that they say. Assumes nothing.
 use mathlib.Core.Path.{_≡_, refl, sym, ap, _∙_}
-use mathlib.Core.Bool.{Bool, true, false, _||_}
+use mathlib.Core.Bool.{Bool, true, false}
 use mathlib.Core.List.{List, [], _∷_}
 use Prim.Native.Nat.{ℕ, zero, suc, _+_, _-_, _*_, _^_, _≤_, _<_}
 use native.Mathlib.Numerals.{add-one}
 use native.Mathlib.Nat.{le-refl, le-trans}
 use native.Mathlib.Omega.{arith}
-use lib.ListN.{length, drop, getD, drop-of-length-le, length-drop}
-use lib.Seq.{drop-cons}
+use lib.ListN.{length, drop, getD, take, drop-of-length-le, length-drop, length-take}
+use lib.Seq.{drop-cons, getD-drop, getD-take}
 use lib.Dec.{leb, ltb}
-use lib.IntN.{ℤ, pos, negsuc, negℤ}
-use borrow.Author.Tests.{le-leb, lt-leb, lt-ltb, le-ltb, ltb-true, ltb-false}
+use lib.IntN.{pos, negsuc, negℤ}
+use borrow.Author.Tests.{le-leb, lt-leb, ltb-true, ltb-false, leb-true}
 use Rattle.paper.specs.Bytes.{at, is, among, if_then_else_}
 use Rattle.paper.specs.Tokens.{digit, count, valued, in-range}
 use Rattle.paper.specs.Scanner.{span, digits-after, sign, whole, fraction, exponent}
 use Rattle.paper.specs.Layout.{complement}
 use Rattle.tokens.specs.declared.numbers.Amount.{Amount}
 use Rattle.tokens.specs.declared.numbers.Amount.the-variants.{Fits, TooLarge}
-use Rattle.tokens.specs.Numbers.{numberLen, amountOf, complementOf, integerOf}
+use Rattle.tokens.specs.Numbers.{Digits, numberLen, amountOf, complementOf, integerOf}
 use Rattle.paper.proofs.Laws.Rescan.{span-le}
 use Rattle.paper.proofs.Laws.Answers.{if-case}
+use Rattle.paper.proofs.Scanned.Classes.{and-left}
 
 -- ---- lengths
 
@@ -165,3 +166,45 @@ module _ (s : List ℕ) where
   pub integer-minus : is "-" (at s 0) ≡ true → minus (amountOf 9223372036854775808 (count 0 (drop 1 s))) ≡ integerOf (valued s)
   unfolding valued if_then_else_
   integer-minus e = rw e (in-range-neg (count 0 (drop 1 s)))
+
+-- ---- the bytes of an integer are digits
+
+digit-low : (b : ℕ) → digit b ≡ true → 48 ≤ b
+unfolding digit
+digit-low b e = leb-true 48 b (and-left (leb 48 b) (leb b 57) e)
+
+span-digits : (s : List ℕ) (k : ℕ) → k < span digit s → 48 ≤ getD s k 0
+unfolding span
+span-digits [] k h = absurd (omega arith)
+span-digits (b ∷ s) k h = go (digit b) refl k h (λ j l. span-digits s j l)
+  where
+    go : (c : Bool) → digit b ≡ c → (k : ℕ) → k < span digit (b ∷ s) → ((j : ℕ) → j < span digit s → 48 ≤ getD s j 0) → 48 ≤ getD (b ∷ s) k 0
+    go true e zero h again = digit-low b e
+    go true e (suc k) h again = let l : suc k < suc (span digit s) = rw (e, span) at h in again k (omega arith)
+    go false e k h again = let l : k < 0 = rw (e, span) at h in absurd (omega arith)
+
+after-digits : (g n : ℕ) (s : List ℕ) → n ≡ digits-after g s → (i : ℕ) → g ≤ i → i < n → 48 ≤ getD s i 0
+after-digits g n s e i l h = go (span digit (drop g s)) refl
+  where
+    go : (k : ℕ) → span digit (drop g s) ≡ k → 48 ≤ getD s i 0
+    go zero q = absurd (omega (arith, after-none g s q))
+    go (suc k) q =
+        let f : g + (i - g) ≡ i = omega arith in
+        let d : getD (drop g s) (i - g) 0 ≡ getD s i 0 = getD-drop g s (i - g) 0 ∙ ap (λ (j : ℕ). getD s j 0) f in
+        omega (arith, d, span-digits (drop g s) (i - g) (omega (arith, after-some g s k q)))
+
+pub whole-digits : (n : ℕ) (s : List ℕ) → n ≡ whole s → Digits (take n s) (sign (is "-") (at (take n s) 0))
+unfolding whole
+whole-digits n s e i l h =
+    let m : i < n = omega (arith, length-take n s) in
+    let a : at (take n s) 0 ≡ at s 0 = getD-take n s 0 256 (omega arith) in
+    let g : sign (is "-") (at (take n s) 0) ≡ sign (is "-") (at s 0) = ap (sign (is "-")) a in
+    omega (arith, getD-take n s i 0 m, after-digits (sign (is "-") (at s 0)) n s e i (omega arith) m)
+
+pub sign-none : (p : ℕ → Bool) (b : ℕ) → p b ≡ false → sign p b ≡ 0
+unfolding sign if_then_else_
+sign-none p b e = rw e
+
+pub sign-one : (p : ℕ → Bool) (b : ℕ) → p b ≡ true → sign p b ≡ 1
+unfolding sign if_then_else_
+sign-one p b e = rw e

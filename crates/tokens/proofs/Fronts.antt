@@ -1,23 +1,20 @@
 -- Laws of the token at the front: one for each case of the scanner. Assumes nothing.
-use mathlib.Core.Path.{_≡_, refl, sym, ap, ap₂, _∙_}
-use mathlib.Core.Bool.{Bool, true, false, not, _&&_, _||_, true≢false}
+use mathlib.Core.Path.{_≡_, refl, ap, ap₂, _∙_}
+use mathlib.Core.Bool.{Bool, true, false, _||_, true≢false}
 use mathlib.Core.List.{List, [], _∷_}
 use mathlib.Core.Option.{Option, none, some}
-use Prim.Native.Nat.{ℕ, zero, suc, _+_, _-_, _≤_, _<_}
+use Prim.Native.Nat.{ℕ, suc, _+_, _-_, _≤_, _<_}
 use native.Mathlib.Omega.{arith}
 use lib.ListN.{length, take, drop, length-drop}
 use lib.Seq.{length-take-le}
-use lib.Dec.{eqb, leb, ltb, lit≤}
-use borrow.Author.Tests.{eq-eqb, ne-eqb, le-leb, lt-leb, lt-ltb, le-ltb, not-true, not-false, eqb-false, leb-true, leb-false, ltb-true, ltb-false}
+use lib.Dec.{leb}
+use borrow.Author.Tests.{eq-eqb, ne-eqb, le-leb, lt-leb, lt-ltb, le-ltb, not-true, not-false}
 use Rattle.paper.specs.Bytes.{at, is, among, empty, if_then_else_}
-use Rattle.paper.specs.Syntax.{integer, decimal, string}
-use Rattle.paper.specs.Tokens.{starts, digit, goes-on, in-range, valued, reserved, Token, name, literal, mark, end}
-use Rattle.paper.specs.Scanner.{Scanned, token, fault, span, named, number, quoted, text, scan, whole, fraction, exponent}
+use Rattle.paper.specs.Syntax.{integer, string}
+use Rattle.paper.specs.Tokens.{starts, digit, goes-on, in-range, valued, reserved, literal, mark}
+use Rattle.paper.specs.Scanner.{token, fault, span, named, number, text, scan, whole}
 use Rattle.paper.specs.Layout.{complement}
-use Rattle.paper.proofs.Laws.Answers.{if-case}
-use Rattle.paper.proofs.Laws.Rescan.{span-le}
-use Rattle.tokens.specs.declared.Kind.{Kind}
-use Rattle.tokens.specs.declared.Kind.the-variants.{Name, Word, Integer, Decimal, Text, Mark, End}
+use Rattle.tokens.specs.declared.Kind.the-variants.{Integer, Decimal, Text, End}
 use Rattle.tokens.specs.declared.numbers.Amount.{Amount}
 use Rattle.tokens.specs.declared.numbers.Amount.the-variants.{Fits, TooLarge}
 use Rattle.tokens.specs.declared.text.Quoted.{Quoted}

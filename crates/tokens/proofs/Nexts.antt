@@ -1,17 +1,11 @@
 -- The next token, wherever the rest of the source stands: what `next_token` answers, said of the paper's `next`. Assumes nothing.
 use mathlib.Core.Path.{_≡_, refl, sym, ap, ap₂, _∙_}
-use mathlib.Core.Bool.{Bool, true, false, not, _&&_, _||_, true≢false, false≢true}
-use mathlib.Core.List.{List, [], _∷_}
-use mathlib.Core.Option.{Option, none, some}
-use Prim.Native.Nat.{ℕ, zero, suc, _+_, _-_, _≤_, _<_}
+use mathlib.Core.List.{List}
+use Prim.Native.Nat.{ℕ, _+_, _-_, _≤_}
 use native.Mathlib.Omega.{arith}
-use lib.ListN.{length, take, drop, getD, length-drop}
-use lib.Seq.{drop-drop}
-use lib.Dec.{eqb, leb}
-use borrow.Author.Tests.{le-leb}
-use Rattle.paper.specs.Bytes.{at, is, same, if_then_else_}
-use Rattle.paper.specs.Answer.{Answer, ok, refused, _>>=_}
-use Rattle.paper.specs.Tokens.{Token, name, literal, mark, end, Here, past}
+use lib.ListN.{length, drop}
+use Rattle.paper.specs.Answer.{ok, refused, _>>=_}
+use Rattle.paper.specs.Tokens.{Token, Here, past}
 use Rattle.paper.specs.Scanner.{Scanned, token, fault, scan, found, next}
 use Rattle.tokens.specs.declared.gaps.Skipped.the-variants.{To, Open}
 use Rattle.tokens.specs.declared.Kind.{Kind}
@@ -20,9 +14,8 @@ use Rattle.tokens.specs.declared.scan.Front.the-variants.{Read, Fault}
 use Rattle.tokens.specs.declared.Token.the-variants.{Found, Refused}
 use Rattle.tokens.specs.declared.Token as code
 use Rattle.tokens.specs.Gaps.{skipOf, skips}
-use Rattle.tokens.specs.Kinds.{kindOf}
 use Rattle.tokens.specs.Scans.{scanOf}
-use Rattle.tokens.specs.Shown.{shown, partOf}
+use Rattle.tokens.specs.Shown.{shown}
 use Rattle.tokens.proofs.Skips.{Ending, at-token, at-comment, ending}
 use Rattle.tokens.proofs.Shapes.{Shape, at-end, a-name, an-integer, a-decimal, a-string, a-mark, a-fault, shape}
 

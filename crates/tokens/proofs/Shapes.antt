@@ -1,27 +1,25 @@
 -- What the token at the front can be, and that it lies within the source. Assumes nothing.
-use mathlib.Core.Path.{_≡_, refl, sym, ap, ap₂, _∙_}
-use mathlib.Core.Bool.{Bool, true, false, not, _&&_, _||_, true≢false, false≢true}
+use mathlib.Core.Path.{_≡_, refl, ap, _∙_}
+use mathlib.Core.Bool.{true, false, _||_, true≢false, false≢true}
 use mathlib.Core.List.{List, [], _∷_}
 use mathlib.Core.Option.{Option, none, some}
-use Prim.Native.Nat.{ℕ, zero, suc, _+_, _-_, _≤_, _<_}
+use Prim.Native.Nat.{ℕ, zero, suc, _-_, _≤_}
 use native.Mathlib.Omega.{arith}
 use lib.ListN.{length, take, drop, getD, length-drop}
-use lib.Dec.{eqb, leb, ltb}
-use borrow.Author.Tests.{eqb-true, eqb-false, leb-true, leb-false, ltb-true, ltb-false}
-use Rattle.paper.specs.Bytes.{at, is, among, empty, if_then_else_}
+use lib.Dec.{eqb}
+use borrow.Author.Tests.{eqb-false, leb-true}
+use Rattle.paper.specs.Bytes.{at, is, empty}
 use Rattle.paper.specs.Syntax.{integer, decimal, string}
-use Rattle.paper.specs.Tokens.{starts, digit, goes-on, in-range, valued, reserved, member, Token, name, literal, mark, end}
-use Rattle.paper.specs.Scanner.{Scanned, token, fault, span, named, number, meant, quoted, text, scan, whole}
+use Rattle.paper.specs.Tokens.{starts, goes-on, in-range, valued, name, literal, mark, end}
+use Rattle.paper.specs.Scanner.{Scanned, token, fault, span, named, number, quoted, text, scan, whole}
 use Rattle.paper.proofs.Laws.Answers.{if-case}
 use Rattle.paper.proofs.Laws.Rescan.{span-le}
-use Rattle.paper.proofs.Scanned.Classes.{or-left, or-right}
+use Rattle.paper.proofs.Scanned.Classes.{or-left}
 use Rattle.tokens.specs.Numbers.{numberLen}
-use Rattle.tokens.specs.Text.{quotes}
 use Rattle.tokens.proofs.At.{at-in}
 use Rattle.tokens.proofs.Runs.{span-step}
-use Rattle.tokens.proofs.Skips.{there, class-there}
 use Rattle.tokens.proofs.Digits.{whole-le, number-le}
-use Rattle.tokens.proofs.Strings.{more, quoted-within}
+use Rattle.tokens.proofs.Strings.{quoted-within}
 
 pub data Shape (s : List ℕ) : Scanned → Type 0 where
   at-end : length s ≡ 0 → Shape s (token end 0)

@@ -10,13 +10,12 @@ use lib.ListN.{length, drop, getD, drop-of-length-le, length-drop}
 use lib.Seq.{drop-cons, drop-drop}
 use lib.Dec.{ltb, eqb, lit<}
 use borrow.Author.Tests.{eqb-true, ltb-true, ltb-false}
-use Rattle.paper.proofs.Scanned.Classes.{and-left, and-right}
+use Rattle.paper.proofs.Scanned.Classes.{and-right}
 use Rattle.paper.proofs.Laws.Rescan.{span-le}
 use Rattle.paper.specs.Bytes.{at, is, if_then_else_}
 use Rattle.paper.specs.Answer.{Answer, ok, refused}
 use Rattle.paper.specs.Tokens.{blank, Here, past}
 use Rattle.paper.specs.Scanner.{span, closing, gap, skip}
-use Rattle.tokens.specs.declared.gaps.Ends.{Ends}
 use Rattle.tokens.specs.declared.gaps.Ends.the-variants.{At, Never}
 use Rattle.tokens.specs.declared.gaps.Skipped.the-variants.{To, Open}
 use Rattle.tokens.specs.Gaps.{endOf, skipOf, skips}

@@ -1,14 +1,14 @@
 -- Laws of strings: the byte that is meant, and the loop up to the closing quote. Assumes nothing.
 use mathlib.Core.Path.{_≡_, refl, sym, ap, ap₂, _∙_}
-use mathlib.Core.Bool.{Bool, true, false, not, _&&_, _||_, true≢false, false≢true}
+use mathlib.Core.Bool.{Bool, true, false, _&&_, true≢false, false≢true}
 use mathlib.Core.List.{List, [], _∷_, _++_}
 use mathlib.Core.Option.{Option, none, some}
-use Prim.Native.Nat.{ℕ, zero, suc, _+_, _-_, _*_, _≤_, _<_}
+use Prim.Native.Nat.{ℕ, zero, suc, _+_, _-_, _≤_, _<_}
 use native.Mathlib.Numerals.{add-one}
 use native.Mathlib.Omega.{arith}
 use lib.ListN.{length, take, drop, getD, set, drop-of-length-le, length-drop}
 use lib.Seq.{drop-drop, paste, paste-suc, take-all}
-use lib.Dec.{eqb, leb, lit<}
+use lib.Dec.{leb, lit<}
 use borrow.Author.Tests.{eq-eqb, ne-eqb, eqb-true, leb-true}
 use Rattle.paper.specs.Bytes.{at, is, among, between, empty, if_then_else_}
 use Rattle.paper.specs.Tokens.{octal, escaped}
@@ -16,7 +16,7 @@ use Rattle.paper.specs.Scanner.{meant, quoted}
 use Rattle.paper.proofs.Laws.Answers.{if-case}
 use Rattle.paper.proofs.Scanned.Classes.{and-left, and-right, or-right}
 use Rattle.tokens.specs.declared.text.Meant.the-variants.{Byte, Bad}
-use Rattle.tokens.specs.declared.text.Quoted.the-variants.{Closed, Unclosed}
+use Rattle.tokens.specs.declared.text.Quoted.the-variants.{Closed}
 use Rattle.tokens.specs.Text.{meantOf, escapeOf, octalsAt, octalValue, quotes, quotedOf, isClosed, textIn, put, itselfOf}
 use Rattle.tokens.proofs.At.{at-in, at-drop}
 use Rattle.tokens.proofs.Skips.{there, class-there}

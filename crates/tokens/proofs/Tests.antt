@@ -1,16 +1,16 @@
 -- The code's kinds and the paper's tests of a token. Assumes nothing.
-use mathlib.Core.Path.{_≡_, refl, sym, ap, ap₂, _∙_}
-use mathlib.Core.Bool.{Bool, true, false, not, _&&_, _||_, true≢false, false≢true}
+use mathlib.Core.Path.{_≡_, refl, _∙_}
+use mathlib.Core.Bool.{Bool, true, false, not, _&&_}
 use mathlib.Core.List.{List, [], _∷_}
-use Prim.Native.Nat.{ℕ, zero, suc, _+_, _≤_, _<_}
+use Prim.Native.Nat.{ℕ, suc}
 use native.Mathlib.Omega.{arith}
-use lib.ListN.{length, take, getD}
+use lib.ListN.{length, take}
 use lib.Seq.{take-all}
 use lib.Dec.{eqb}
 use borrow.Author.Tests.{eqb-true}
 use Rattle.paper.specs.Bytes.{same}
-use Rattle.paper.specs.Syntax.{Basic, boolean, null, integer, decimal, string, reference, vector}
-use Rattle.paper.specs.Tokens.{Token, name, literal, mark, end, reserved, member}
+use Rattle.paper.specs.Syntax.{boolean, null, integer, decimal, string, reference, vector}
+use Rattle.paper.specs.Tokens.{name, literal, mark, end, reserved, member}
 use Rattle.paper.specs.Scanner.{Scanned, token, fault, scan}
 use Rattle.paper.specs.Decoder.{one-name, a-decimal, one-decimal}
 use Rattle.tokens.specs.declared.Kind.{Kind}

@@ -1,6 +1,6 @@
 -- For callers of `next_token`: from its answer at `&src[p..]` to the paper's `next` at the place p of the source. Assumes nothing.
 use mathlib.Core.Path.{_≡_, refl, sym, ap, ap₂, _∙_, subst}
-use mathlib.Core.Bool.{Bool, true, false, not, _&&_, _||_, true≢false, false≢true}
+use mathlib.Core.Bool.{Bool, true, false, not, _||_, false≢true}
 use mathlib.Core.List.{List, [], _∷_}
 use Prim.Native.Nat.{ℕ, zero, suc, _+_, _-_, _≤_, _<_}
 use Prim.Native.Char.{Char}
@@ -8,15 +8,15 @@ use Prim.Native.String.{String}
 use native.Mathlib.Omega.{arith}
 use lib.ListN.{length, take, drop, getD, length-drop}
 use lib.Seq.{drop-drop, length-take-le}
-use lib.Dec.{eqb, leb}
+use lib.Dec.{eqb}
 use borrow.Author.Tests.{le-leb}
 use Rattle.paper.specs.Bytes.{bytes, at, is, same, if_then_else_}
 use Rattle.paper.specs.Answer.{Answer, ok, refused}
 use Rattle.paper.specs.Syntax.{Basic, integer, decimal, string}
-use Rattle.paper.specs.Tokens.{Token, name, literal, mark, end, Here, past, reserved, member, valued, in-range, is-name, is-word, is-mark, is-end, spelling}
+use Rattle.paper.specs.Tokens.{Token, name, literal, mark, end, Here, past, reserved, member, valued, in-range, is-name, is-word, is-mark, is-end}
 use Rattle.paper.specs.Scanner.{Scanned, token, fault, scan, found, next}
 use Rattle.paper.specs.Layout.{complement}
-use Rattle.paper.proofs.Scanned.Classes.{and-left, and-right, or-left, or-right, is-false}
+use Rattle.paper.proofs.Scanned.Classes.{or-left, or-right}
 use Rattle.tokens.specs.declared.Kind.{Kind}
 use Rattle.tokens.specs.declared.Kind.the-variants.{Name, Word, Integer, Decimal, Text, Mark, End}
 use Rattle.tokens.specs.declared.Token.the-variants.{Found, Refused}
@@ -25,7 +25,7 @@ use Rattle.tokens.specs.Kinds.{wordFrom, literalKind, kindOf}
 use Rattle.tokens.specs.Gaps.{skips}
 use Rattle.tokens.specs.Shown.{shown, partOf, stringOf, textOf}
 use Rattle.tokens.proofs.Table.{agree, agreed, every, entry}
-use Rattle.tokens.proofs.Words.{same-eq, same-refl, eq-same, ne-same}
+use Rattle.tokens.proofs.Words.{same-eq, eq-same}
 use Rattle.tokens.proofs.Skips.{Ending, at-token, at-comment, ending}
 use Rattle.tokens.proofs.Shapes.{Shape, at-end, a-name, an-integer, a-decimal, a-string, a-mark, a-fault, shape}
 use Rattle.tokens.proofs.At.{rest}

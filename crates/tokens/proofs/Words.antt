@@ -1,9 +1,9 @@
 -- The test of two names for equality, and the code's two tables, which say what the list of reserved words says:
 -- one test, computed over the fourteen rows. Assumes nothing.
 use mathlib.Core.Path.{_≡_, refl, sym, ap, ap₂, _∙_}
-use mathlib.Core.Bool.{Bool, true, false, _&&_, _||_, false≢true, true≢false}
+use mathlib.Core.Bool.{Bool, true, false, _&&_, false≢true}
 use mathlib.Core.List.{List, [], _∷_}
-use Prim.Native.Nat.{ℕ, zero, suc, _+_, _<_, _≤_}
+use Prim.Native.Nat.{ℕ, suc, _+_, _<_, _≤_}
 use native.Mathlib.Numerals.{add-one}
 use native.Mathlib.Omega.{arith}
 use lib.Dec.{eqb, leb}
@@ -11,12 +11,11 @@ use lib.ListN.{length, getD, take, drop, drop-of-length-le}
 use lib.Seq.{drop-cons}
 use borrow.Author.Tests.{eq-eqb, eqb-true, leb-true}
 use Rattle.paper.specs.Bytes.{bytes, same}
-use Rattle.paper.specs.Tokens.{reserved, member}
+use Rattle.paper.specs.Tokens.{reserved}
 use Rattle.paper.proofs.Scanned.Classes.{and-left, and-right, is-false}
-use Rattle.tokens.specs.declared.Kind.{Kind}
 use Rattle.tokens.specs.declared.Kind.the-variants.{Name, Word}
 use Rattle.tokens.specs.Kinds.{wordFrom}
-use Rattle.tokens.proofs.Table.{every, entry}
+use Rattle.tokens.proofs.Table.{entry}
 
 -- ---- equal names
 

@@ -3,10 +3,10 @@ ghost use mathlib.Core.Path.{_≡_};
 ghost use Prim.Native.Nat.{_+_, _-_, _<_, _≤_, _^_};
 ghost use lib.ListN.{length, drop};
 ghost use Rattle.paper.specs.Tokens.{digit, count, valued};
-ghost use Rattle.paper.specs.Bytes.{at, among};
+ghost use Rattle.paper.specs.Bytes.{at, is, among};
 ghost use Rattle.paper.specs.Scanner.{span, digits-after, sign, whole, fraction, exponent};
 ghost use Rattle.tokens.specs.Class.{Classed};
-ghost use Rattle.tokens.specs.Numbers.{amountOf, complementOf, integerOf, numberLen};
+ghost use Rattle.tokens.specs.Numbers.{Digits, amountOf, complementOf, integerOf, numberLen};
 use crate::class::DIGIT;
 use crate::class::byte_at;
 use crate::class::wide;
@@ -124,32 +124,29 @@ pub(crate) fn number_len(class: &[u8; 256], s: &[u8], n: usize) -> usize
 
 // What a digit counts.
 fn digit_value(b: u8) -> u64
+    requires { ⌜ 48 ≤ b ⌝ }
     ensures { λ r. ⌜ (r ≡ b - 48) × (r < 208) ⌝ }
 {
-    if b < 48 {
-        return 0;
-    }
     (b - 48) as u64
 }
 
-// The number that the digits from a place on say, where it is at most the limit: two tests, so that no product is too large.
+// The number that the digits from a place on say, where it is at most the limit; the first test keeps each product within 64 bits.
 fn magnitude(s: &[u8], from: usize, limit: u64) -> Amount
     requires { ⌜ limit ≤ 2 ^ 63 ⌝ }
+    requires { ⌜ Digits (now s) from ⌝ }
     ensures { λ r. ⌜ r ≡ amountOf limit (count 0 (drop from (now (s .entry)))) ⌝ }
 {
     let mut v: u64 = 0;
     let mut i = from;
     while i < s.len() {
-        let d = digit_value(s[i]);
         if 922337203685477580 < v {
             return Amount::TooLarge;
         }
-        let next = v * 10 + d;
-        if limit < next {
-            return Amount::TooLarge;
-        }
-        v = next;
+        v = v * 10 + digit_value(s[i]);
         i += 1;
+    }
+    if limit < v {
+        return Amount::TooLarge;
     }
     Amount::Fits(v)
 }
@@ -165,7 +162,8 @@ fn negative(v: u64) -> u64
 }
 
 // The integer that all of s says.
-pub fn integer(s: &[u8]) -> Amount
+pub(crate) fn integer(s: &[u8]) -> Amount
+    requires { ⌜ Digits (now s) (sign (is "-") (at (now s) 0)) ⌝ }
     ensures { λ r. ⌜ r ≡ integerOf (valued (now (s .entry))) ⌝ }
 {
     if byte_at(s, 0) != MINUS {

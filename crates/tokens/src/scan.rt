@@ -2,7 +2,9 @@
 ghost use mathlib.Core.Path.{_≡_};
 ghost use lib.ListN.{drop};
 ghost use Rattle.paper.specs.Tokens.{goes-on};
-ghost use Rattle.paper.specs.Scanner.{span, named, text, scan};
+ghost use Rattle.paper.specs.Bytes.{at, is};
+ghost use Rattle.paper.specs.Scanner.{span, sign, named, text, scan};
+ghost use Rattle.tokens.specs.Numbers.{Digits};
 ghost use Rattle.tokens.specs.Class.{Classed};
 ghost use Rattle.tokens.specs.Text.{quotes};
 ghost use Rattle.tokens.specs.Scans.{scanOf, numbered, endsAt, integerFront};
@@ -80,6 +82,7 @@ fn number_token(class: &[u8; 256], s: &[u8]) -> Front
 
 // All of s is an integer's text.
 fn integer_token(s: &[u8]) -> Front
+    requires { ⌜ Digits (now s) (sign (is "-") (at (now s) 0)) ⌝ }
     ensures { λ r. ⌜ r ≡ integerFront (now (s .entry)) ⌝ }
 {
     match integer(s) {

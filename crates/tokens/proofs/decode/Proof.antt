@@ -1,25 +1,20 @@
+-- `tokens::decode` meets its contract. Assumes nothing.
 use borrow.Author.Needs.{needs}
 use native.Mathlib.Omega.{arith}
-use mathlib.Core.Path.{_≡_, refl, sym, ap, ap₂, _∙_}
-use mathlib.Core.Bool.{true, false}
+use mathlib.Core.Path.{_≡_, sym, ap, ap₂, _∙_}
+use mathlib.Core.Bool.{true}
 use mathlib.Core.List.{List}
-use Prim.Native.Nat.{ℕ, _+_, _≤_}
+use Prim.Native.Nat.{ℕ, _+_}
 use borrow.Author.Tests.{not-true, not-false, leb-true}
 use lib.ListN.{length, drop}
 use lib.Dec.{leb}
 use Rattle.paper.specs.Bytes.{at}
 use Rattle.paper.specs.Scanner.{scan, text}
-use Rattle.tokens.specs.Text.{quotes, quotedOf, isClosed, textIn, put}
-use Rattle.tokens.specs.Shown.{textOf, Decoded, decoded}
+use Rattle.tokens.specs.Text.{quotes, isClosed, textIn, put}
+use Rattle.tokens.specs.Shown.{textOf, Decoded}
 use Rattle.tokens.proofs.Decodes.{no-string, a-string, closed-told, unclosed-told, text-short, text-long, writes-nothing, writes-none, writes-all}
 use Rattle.tokens.proofs.decode.Statement.{statement}
 use Rattle.tokens.proofs.decode.Tie as tie
-use Rattle.tokens.proofs.decode.Reads as reads
-use Rattle.tokens.proofs.decode.Lts as lts
-use Rattle.tokens.proofs.class.byte_at.Reads as byte-at-reads
-use Rattle.tokens.proofs.fits.Reads as fits-reads
-use Rattle.tokens.proofs.text.measure.Reads as measure-reads
-use Rattle.tokens.proofs.text.write_text.Reads as write-text-reads
 
 answer : ℕ → List ℕ → Decoded
 answer k o = record { count = k; out = o }

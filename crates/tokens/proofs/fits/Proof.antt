@@ -1,14 +1,12 @@
-use borrow.Author.Needs.{needs}
+-- `tokens::fits` meets its contract. Assumes nothing.
 use native.Mathlib.Omega.{arith}
-use mathlib.Core.Path.{_≡_, refl, sym, ap, _∙_}
+use mathlib.Core.Path.{_≡_, refl, sym, _∙_}
 use mathlib.Core.Bool.{Bool, true, false}
 use Prim.Native.Nat.{ℕ, _+_, _-_, _≤_}
 use lib.Dec.{leb}
 use borrow.Author.Tests.{le-leb, lt-leb, leb-true, leb-false}
 use Rattle.tokens.proofs.fits.Statement.{statement}
 use Rattle.tokens.proofs.fits.Tie as tie
-use Rattle.tokens.proofs.fits.Reads as reads
-use Rattle.tokens.proofs.fits.Lts as lts
 
 -- the sum may be too large to make
 same-test : (a n l : ℕ) → n ≤ l → (t : Bool) → leb a (l - n) ≡ t → leb a (l - n) ≡ leb (a + n) l

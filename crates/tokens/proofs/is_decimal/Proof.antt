@@ -1,7 +1,6 @@
+-- `tokens::is_decimal` meets its contract. Assumes nothing.
 use borrow.Author.Needs.{needs}
-use native.Mathlib.Omega.{arith}
-use mathlib.Core.Path.{_≡_, refl, sym, ap, _∙_}
-use Prim.Native.Nat.{ℕ}
+use mathlib.Core.Path.{sym, ap, _∙_}
 use lib.ListN.{length}
 use Rattle.paper.specs.Scanner.{scan}
 use Rattle.tokens.specs.declared.Kind.{Kind}
@@ -9,10 +8,6 @@ use Rattle.tokens.specs.declared.scan.Front.the-variants.{Read}
 use Rattle.tokens.proofs.Tests.{asDecimal, decimal-text}
 use Rattle.tokens.proofs.is_decimal.Statement.{statement}
 use Rattle.tokens.proofs.is_decimal.Tie as tie
-use Rattle.tokens.proofs.is_decimal.Reads as reads
-use Rattle.tokens.proofs.is_decimal.Lts as lts
-use Rattle.tokens.proofs.class.table.Reads as table-reads
-use Rattle.tokens.proofs.scan.scan_front.Reads as scan-front-reads
 
 table-requires : tie.Need-table-requires
 table-requires c κs = search needs

@@ -1,18 +1,12 @@
+-- `tokens::is_name` meets its contract. Assumes nothing.
 use borrow.Author.Needs.{needs}
-use native.Mathlib.Omega.{arith}
-use mathlib.Core.Path.{_≡_, refl, sym, ap, _∙_}
-use Prim.Native.Nat.{ℕ}
+use mathlib.Core.Path.{sym, ap, _∙_}
 use lib.ListN.{length}
-use Rattle.paper.specs.Scanner.{scan}
 use Rattle.tokens.specs.declared.Kind.{Kind}
 use Rattle.tokens.specs.declared.scan.Front.the-variants.{Read}
 use Rattle.tokens.proofs.Tests.{asName, name-text}
 use Rattle.tokens.proofs.is_name.Statement.{statement}
 use Rattle.tokens.proofs.is_name.Tie as tie
-use Rattle.tokens.proofs.is_name.Reads as reads
-use Rattle.tokens.proofs.is_name.Lts as lts
-use Rattle.tokens.proofs.class.table.Reads as table-reads
-use Rattle.tokens.proofs.scan.scan_front.Reads as scan-front-reads
 
 table-requires : tie.Need-table-requires
 table-requires c κs = search needs

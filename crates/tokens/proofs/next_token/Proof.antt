@@ -1,12 +1,12 @@
+-- `tokens::next_token` meets its contract. Assumes nothing.
 use borrow.Author.Needs.{needs}
 use native.Mathlib.Omega.{arith}
-use mathlib.Core.Path.{_≡_, refl, sym, ap, _∙_}
+use mathlib.Core.Path.{_≡_, sym, ap, _∙_}
 use mathlib.Core.List.{List}
-use Prim.Native.Nat.{ℕ, _+_, _-_, _≤_}
-use lib.ListN.{length, drop, length-drop}
+use Prim.Native.Nat.{ℕ, _-_}
+use lib.ListN.{drop, length-drop}
 use Rattle.paper.specs.Scanner.{scan}
-use Rattle.tokens.specs.declared.scan.Front.the-variants.{Read, Fault}
-use Rattle.tokens.specs.declared.gaps.Skipped.the-variants.{To, Open}
+use Rattle.tokens.specs.declared.gaps.Skipped.the-variants.{To}
 use Rattle.tokens.specs.Gaps.{skipOf, skips}
 use Rattle.tokens.specs.Scans.{scanOf}
 use Rattle.tokens.specs.Shown.{shown}
@@ -14,11 +14,6 @@ use Rattle.tokens.proofs.At.{rest}
 use Rattle.tokens.proofs.Nexts.{from, next-token, next-comment, skipped-to, skipped-open, placed, placed-found, read-within}
 use Rattle.tokens.proofs.next_token.Statement.{statement}
 use Rattle.tokens.proofs.next_token.Tie as tie
-use Rattle.tokens.proofs.next_token.Reads as reads
-use Rattle.tokens.proofs.next_token.Lts as lts
-use Rattle.tokens.proofs.class.table.Reads as table-reads
-use Rattle.tokens.proofs.gaps.skip.Reads as skip-reads
-use Rattle.tokens.proofs.scan.scan_front.Reads as scan-front-reads
 
 -- where the skipping ends
 place : (c : tie.After-at2) → To (c .at2 .given .0 .0) ≡ skipOf (skips 0 (c .before .before .before .before .before .before .args .rest .now))

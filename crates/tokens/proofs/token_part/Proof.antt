@@ -1,14 +1,11 @@
+-- `tokens::token_part` meets its contract. Assumes nothing.
 use borrow.Author.Needs.{needs}
-use native.Mathlib.Omega.{arith}
-use mathlib.Core.Path.{_≡_, refl, sym, ap, _∙_}
 use borrow.Author.Tests.{le-leb, lt-leb}
 use lib.ListN.{length}
 use Rattle.paper.specs.Bytes.{if_then_else_}
 use Rattle.tokens.specs.Shown.{partOf}
 use Rattle.tokens.proofs.token_part.Statement.{statement}
 use Rattle.tokens.proofs.token_part.Tie as tie
-use Rattle.tokens.proofs.token_part.Reads as reads
-use Rattle.tokens.proofs.token_part.Lts as lts
 
 sub-result : tie.Need-sub-result
 sub-result c = search needs

@@ -1,11 +1,9 @@
+-- `tokens::class::byte_at` meets its contract. Assumes nothing.
 use mathlib.Core.Path.{_∙_, sym}
 use Rattle.tokens.proofs.At.{at-in, at-out}
 use borrow.Author.Needs.{needs}
 use Rattle.tokens.proofs.class.byte_at.Statement.{statement}
 use Rattle.tokens.proofs.class.byte_at.Tie as tie
-use Rattle.tokens.proofs.class.byte_at.Reads as reads
-use Rattle.tokens.proofs.class.byte_at.Lts as lts
-use Rattle.tokens.proofs.class.wide.Reads as wide-reads
 
 -- src/class.rt:38:21
 shared-slice-read-wide : tie.Need-shared-slice-read-wide

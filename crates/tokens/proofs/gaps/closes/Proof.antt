@@ -1,17 +1,15 @@
+-- `tokens::gaps::closes` meets its contract. Assumes nothing.
 use Prim.Native.Nat.{ℕ, _+_}
 use borrow.Author.Needs.{needs}
 use native.Mathlib.Omega.{arith}
 use mathlib.Core.Path.{sym, ap, _∙_}
 use mathlib.Core.Bool.{Bool, _&&_}
 use borrow.Author.Tests.{eq-eqb, ne-eqb}
-use lib.Dec.{eqb, lit<}
+use lib.Dec.{lit<}
 use Rattle.paper.specs.Bytes.{at, is}
 use Rattle.tokens.proofs.Skips.{there}
 use Rattle.tokens.proofs.gaps.closes.Statement.{statement}
 use Rattle.tokens.proofs.gaps.closes.Tie as tie
-use Rattle.tokens.proofs.gaps.closes.Reads as reads
-use Rattle.tokens.proofs.gaps.closes.Lts as lts
-use Rattle.tokens.proofs.class.byte_at.Reads as byte-at-reads
 
 byte-at-requires : tie.Need-byte-at-requires
 byte-at-requires c κs = search needs

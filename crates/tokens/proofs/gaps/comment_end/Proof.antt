@@ -1,16 +1,14 @@
+-- `tokens::gaps::comment_end` meets its contract. Assumes nothing.
 use borrow.Author.Needs.{needs}
 use native.Mathlib.Omega.{arith}
-use mathlib.Core.Path.{_≡_, refl, sym, ap, _∙_}
-use Prim.Native.Nat.{ℕ, _+_, _-_, _≤_}
+use mathlib.Core.Path.{_≡_, refl, sym, _∙_}
+use Prim.Native.Nat.{_-_}
 use lib.ListN.{length, drop}
 use Rattle.paper.specs.Scanner.{closing}
 use Rattle.tokens.specs.Gaps.{endOf}
 use Rattle.tokens.proofs.Skips.{closing-here, closing-later, closing-never, close-next}
 use Rattle.tokens.proofs.gaps.comment_end.Statement.{statement}
 use Rattle.tokens.proofs.gaps.comment_end.Tie as tie
-use Rattle.tokens.proofs.gaps.comment_end.Reads as reads
-use Rattle.tokens.proofs.gaps.comment_end.Lts as lts
-use Rattle.tokens.proofs.gaps.closes.Reads as closes-reads
 
 abbrev Inv-loop : tie.InvT-loop
 Inv-loop s from i₀ i = endOf from (closing (drop from s)) ≡ endOf i (closing (drop i s))

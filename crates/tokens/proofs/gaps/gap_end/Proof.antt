@@ -1,8 +1,9 @@
+-- `tokens::gaps::gap_end` meets its contract. Assumes nothing.
 use borrow.Author.Needs.{needs}
 use native.Mathlib.Omega.{arith}
-use mathlib.Core.Path.{_≡_, refl, sym, ap, _∙_}
-use mathlib.Core.Bool.{Bool, true, false}
-use Prim.Native.Nat.{ℕ, _+_, _<_}
+use mathlib.Core.Path.{_≡_, sym, ap, _∙_}
+use mathlib.Core.Bool.{true, false}
+use Prim.Native.Nat.{_+_, _<_}
 use borrow.Author.Tests.{eq-eqb, ne-eqb}
 use lib.ListN.{length}
 use lib.Dec.{lit<}
@@ -12,12 +13,6 @@ use Rattle.tokens.specs.declared.gaps.Ends.the-variants.{At}
 use Rattle.tokens.proofs.Skips.{there, blank-there, ends-blank, ends-plain, ends-line, ends-comment, ends-slash}
 use Rattle.tokens.proofs.gaps.gap_end.Statement.{statement}
 use Rattle.tokens.proofs.gaps.gap_end.Tie as tie
-use Rattle.tokens.proofs.gaps.gap_end.Reads as reads
-use Rattle.tokens.proofs.gaps.gap_end.Lts as lts
-use Rattle.tokens.proofs.class.byte_at.Reads as byte-at-reads
-use Rattle.tokens.proofs.class.class_at.Reads as class-at-reads
-use Rattle.tokens.proofs.gaps.comment_end.Reads as comment-end-reads
-use Rattle.tokens.proofs.gaps.line_end.Reads as line-end-reads
 
 -- what the tests on the way say of the bytes
 blank-here : (c : tie.Then1) → blank (at (c .before .before .before .args .s .now) (c .before .before .before .args .i)) ≡ true

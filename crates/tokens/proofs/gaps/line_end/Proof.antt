@@ -1,8 +1,9 @@
+-- `tokens::gaps::line_end` meets its contract. Assumes nothing.
 use borrow.Author.Needs.{needs}
 use native.Mathlib.Omega.{arith}
-use mathlib.Core.Path.{_≡_, refl, sym, ap, _∙_}
+use mathlib.Core.Path.{_≡_, refl, sym, ap}
 use mathlib.Core.Bool.{not}
-use Prim.Native.Nat.{ℕ, _+_, _-_, _≤_}
+use Prim.Native.Nat.{_+_, _-_}
 use borrow.Author.Tests.{eq-eqb, ne-eqb}
 use lib.ListN.{length, drop, getD}
 use Rattle.paper.specs.Bytes.{is}
@@ -10,8 +11,6 @@ use Rattle.paper.specs.Scanner.{span}
 use Rattle.tokens.proofs.Runs.{span-end, span-stop, span-step}
 use Rattle.tokens.proofs.gaps.line_end.Statement.{statement}
 use Rattle.tokens.proofs.gaps.line_end.Tie as tie
-use Rattle.tokens.proofs.gaps.line_end.Reads as reads
-use Rattle.tokens.proofs.gaps.line_end.Lts as lts
 
 abbrev Inv-loop : tie.InvT-loop
 Inv-loop s from i₀ i = from + span (λ b. not (is "\n" b)) (drop from s) ≡ i + span (λ b. not (is "\n" b)) (drop i s)

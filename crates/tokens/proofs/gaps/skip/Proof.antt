@@ -1,15 +1,13 @@
+-- `tokens::gaps::skip` meets its contract. Assumes nothing.
 use borrow.Author.Needs.{needs}
 use native.Mathlib.Omega.{arith}
 use mathlib.Core.Path.{_≡_, refl, sym, ap, _∙_}
-use Prim.Native.Nat.{ℕ, _+_, _-_, _≤_}
+use Prim.Native.Nat.{_-_, _≤_}
 use lib.ListN.{length, drop}
-use Rattle.tokens.specs.Gaps.{endOf, skipOf, skips}
+use Rattle.tokens.specs.Gaps.{skipOf, skips}
 use Rattle.tokens.proofs.Skips.{stops, goes, opens, ends-at}
 use Rattle.tokens.proofs.gaps.skip.Statement.{statement}
 use Rattle.tokens.proofs.gaps.skip.Tie as tie
-use Rattle.tokens.proofs.gaps.skip.Reads as reads
-use Rattle.tokens.proofs.gaps.skip.Lts as lts
-use Rattle.tokens.proofs.gaps.gap_end.Reads as gap-end-reads
 
 abbrev Inv-loop : tie.InvT-loop
 Inv-loop class s i₀ i = (i ≤ length s) × (skips 0 s ≡ skips i (drop i s))

@@ -1,6 +1,7 @@
+-- `tokens::names::is_word` meets its contract. Assumes nothing.
 use borrow.Author.Needs.{needs}
 use native.Mathlib.Omega.{arith}
-use mathlib.Core.Path.{_≡_, refl, sym, ap, _∙_}
+use mathlib.Core.Path.{_≡_, sym, ap, _∙_}
 use mathlib.Core.List.{List}
 use Prim.Native.Nat.{ℕ, _-_, _≤_, _<_}
 use borrow.Author.Count.{below-more}
@@ -9,8 +10,6 @@ use lib.Seq.{getD-take, ext-getD, length-take-le}
 use Rattle.tokens.proofs.Words.{eq-same, ne-same}
 use Rattle.tokens.proofs.names.is_word.Statement.{statement}
 use Rattle.tokens.proofs.names.is_word.Tie as tie
-use Rattle.tokens.proofs.names.is_word.Reads as reads
-use Rattle.tokens.proofs.names.is_word.Lts as lts
 
 abbrev Inv-loop : tie.InvT-loop
 Inv-loop name word n j₀ j = (j ≤ n) × ((k : ℕ) → k < j → getD name k 0 ≡ getD word k 0)

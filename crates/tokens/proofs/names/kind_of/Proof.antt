@@ -1,18 +1,16 @@
+-- `tokens::names::kind_of` meets its contract. Assumes nothing.
 use borrow.Author.Needs.{needs}
 use native.Mathlib.Omega.{arith}
 use mathlib.Core.Path.{_≡_, refl, sym, ap, _∙_}
-use mathlib.Core.List.{List, []}
-use Prim.Native.Nat.{ℕ, _+_, _-_, _≤_, _<_}
-use lib.ListN.{length, getD, drop}
+use mathlib.Core.List.{[]}
+use Prim.Native.Nat.{_-_, _≤_}
+use lib.ListN.{drop}
 use Rattle.paper.specs.Bytes.{same}
 use Rattle.paper.specs.Tokens.{reserved}
 use Rattle.tokens.specs.Kinds.{wordFrom}
 use Rattle.tokens.proofs.Words.{row-word, len-fits, row-long, word-here, word-later, word-none}
 use Rattle.tokens.proofs.names.kind_of.Statement.{statement}
 use Rattle.tokens.proofs.names.kind_of.Tie as tie
-use Rattle.tokens.proofs.names.kind_of.Reads as reads
-use Rattle.tokens.proofs.names.kind_of.Lts as lts
-use Rattle.tokens.proofs.names.is_word.Reads as is-word-reads
 
 abbrev Inv-loop : tie.InvT-loop
 Inv-loop name words lens i₀ i = (i ≤ 14) × (wordFrom 0 name reserved ≡ wordFrom i name (drop i reserved))

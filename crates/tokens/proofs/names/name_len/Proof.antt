@@ -1,19 +1,15 @@
+-- `tokens::names::name_len` meets its contract. Assumes nothing.
 use borrow.Author.Needs.{needs}
 use native.Mathlib.Omega.{arith}
-use mathlib.Core.Path.{_≡_, refl, sym, ap, _∙_}
-use mathlib.Core.Bool.{true, false}
-use mathlib.Core.List.{List}
-use Prim.Native.Nat.{ℕ, _+_, _-_, _≤_}
+use mathlib.Core.Path.{_≡_, sym, ap, _∙_}
+use Prim.Native.Nat.{_+_, _-_}
 use borrow.Author.Tests.{le-leb, lt-leb}
-use lib.ListN.{length, drop, getD}
+use lib.ListN.{length, drop}
 use Rattle.paper.specs.Tokens.{goes-on}
 use Rattle.paper.specs.Scanner.{span}
 use Rattle.tokens.proofs.Runs.{span-end, span-stop, span-step}
 use Rattle.tokens.proofs.names.name_len.Statement.{statement}
 use Rattle.tokens.proofs.names.name_len.Tie as tie
-use Rattle.tokens.proofs.names.name_len.Reads as reads
-use Rattle.tokens.proofs.names.name_len.Lts as lts
-use Rattle.tokens.proofs.class.wide.Reads as wide-reads
 
 abbrev Inv-loop : tie.InvT-loop
 Inv-loop class s i₀ i = span goes-on s ≡ i + span goes-on (drop i s)

@@ -1,13 +1,10 @@
+-- `tokens::numbers::begins_exponent` meets its contract. Assumes nothing.
 use borrow.Author.Needs.{needs}
-use native.Mathlib.Omega.{arith}
-use mathlib.Core.Path.{_≡_, refl, sym, ap, _∙_}
+use mathlib.Core.Path.{sym, _∙_}
 use borrow.Author.Tests.{eq-eqb, ne-eqb}
 use Rattle.paper.specs.Bytes.{at}
 use Rattle.tokens.proofs.numbers.begins_exponent.Statement.{statement}
 use Rattle.tokens.proofs.numbers.begins_exponent.Tie as tie
-use Rattle.tokens.proofs.numbers.begins_exponent.Reads as reads
-use Rattle.tokens.proofs.numbers.begins_exponent.Lts as lts
-use Rattle.tokens.proofs.class.byte_at.Reads as byte-at-reads
 
 byte-at-requires : tie.Need-byte-at-requires
 byte-at-requires c κs = search needs

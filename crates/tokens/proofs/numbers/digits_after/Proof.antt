@@ -1,12 +1,9 @@
+-- `tokens::numbers::digits_after` meets its contract. Assumes nothing.
 use borrow.Author.Needs.{needs}
 use native.Mathlib.Omega.{arith}
-use mathlib.Core.Path.{_≡_, refl, sym, ap, _∙_}
 use Rattle.tokens.proofs.Digits.{after-none, after-end}
 use Rattle.tokens.proofs.numbers.digits_after.Statement.{statement}
 use Rattle.tokens.proofs.numbers.digits_after.Tie as tie
-use Rattle.tokens.proofs.numbers.digits_after.Reads as reads
-use Rattle.tokens.proofs.numbers.digits_after.Lts as lts
-use Rattle.tokens.proofs.numbers.digits_end.Reads as digits-end-reads
 
 digits-end-requires : tie.Need-digits-end-requires
 digits-end-requires c κs = search needs

@@ -1,8 +1,8 @@
+-- `tokens::numbers::digits_end` meets its contract. Assumes nothing.
 use borrow.Author.Needs.{needs}
 use native.Mathlib.Omega.{arith}
 use mathlib.Core.Path.{_≡_, refl, sym, ap, _∙_}
-use mathlib.Core.Bool.{true, false}
-use Prim.Native.Nat.{ℕ, _+_, _-_, _≤_}
+use Prim.Native.Nat.{ℕ, _+_, _-_}
 use borrow.Author.Tests.{eq-eqb, ne-eqb}
 use lib.ListN.{length, drop, getD}
 use lib.Dec.{eqb}
@@ -12,9 +12,6 @@ use Rattle.paper.specs.Scanner.{span}
 use Rattle.tokens.proofs.Runs.{span-end, span-stop, span-step}
 use Rattle.tokens.proofs.numbers.digits_end.Statement.{statement}
 use Rattle.tokens.proofs.numbers.digits_end.Tie as tie
-use Rattle.tokens.proofs.numbers.digits_end.Reads as reads
-use Rattle.tokens.proofs.numbers.digits_end.Lts as lts
-use Rattle.tokens.proofs.class.wide.Reads as wide-reads
 
 -- what the table says of the byte that was read
 class-is : (class : List ℕ) (r b : ℕ) → eqb (getD class r 0) 53 ≡ digit r → r ≡ b → eqb (getD class r 0) 53 ≡ digit b

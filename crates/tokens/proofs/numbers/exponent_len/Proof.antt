@@ -1,17 +1,13 @@
+-- `tokens::numbers::exponent_len` meets its contract. Assumes nothing.
 use borrow.Author.Needs.{needs}
 use native.Mathlib.Omega.{arith}
-use mathlib.Core.Path.{_≡_, refl, sym, ap, _∙_}
+use mathlib.Core.Path.{sym, ap, _∙_}
 use Prim.Native.Nat.{ℕ, _+_}
 use Rattle.paper.specs.Bytes.{at, among}
 use Rattle.paper.specs.Scanner.{digits-after}
 use Rattle.tokens.proofs.Digits.{exponent-some, exponent-none, sign-le}
 use Rattle.tokens.proofs.numbers.exponent_len.Statement.{statement}
 use Rattle.tokens.proofs.numbers.exponent_len.Tie as tie
-use Rattle.tokens.proofs.numbers.exponent_len.Reads as reads
-use Rattle.tokens.proofs.numbers.exponent_len.Lts as lts
-use Rattle.tokens.proofs.numbers.begins_exponent.Reads as begins-exponent-reads
-use Rattle.tokens.proofs.numbers.digits_after.Reads as digits-after-reads
-use Rattle.tokens.proofs.numbers.sign_len.Reads as sign-len-reads
 
 begins-exponent-requires : tie.Need-begins-exponent-requires
 begins-exponent-requires c κs = search needs

@@ -1,28 +1,31 @@
+-- `tokens::numbers::integer` meets its contract. Assumes nothing.
 use borrow.Author.Needs.{needs}
 use native.Mathlib.Omega.{arith}
-use mathlib.Core.Path.{_≡_, refl, sym, ap, _∙_}
+use mathlib.Core.Path.{sym, ap, _∙_}
 use borrow.Author.Tests.{eq-eqb, ne-eqb}
+use Rattle.paper.specs.Bytes.{at, is}
 use Rattle.tokens.specs.declared.numbers.Amount.the-variants.{Fits}
-use Rattle.tokens.proofs.Digits.{minus, integer-plain, integer-minus}
+use Rattle.tokens.proofs.Digits.{minus, integer-plain, integer-minus, sign-none, sign-one}
 use Rattle.tokens.proofs.numbers.integer.Statement.{statement}
 use Rattle.tokens.proofs.numbers.integer.Tie as tie
-use Rattle.tokens.proofs.numbers.integer.Reads as reads
-use Rattle.tokens.proofs.numbers.integer.Lts as lts
-use Rattle.tokens.proofs.class.byte_at.Reads as byte-at-reads
-use Rattle.tokens.proofs.numbers.magnitude.Reads as magnitude-reads
-use Rattle.tokens.proofs.numbers.negative.Reads as negative-reads
 
 byte-at-requires : tie.Need-byte-at-requires
 byte-at-requires c κs = search needs
 
 magnitude-requires : tie.Need-magnitude-requires
-magnitude-requires c κs = search needs
+magnitude-requires c κs =
+    let b = at (c .before .before .before .args .s .now) 0 in
+    let g = sign-none (is "-") b (ne-eqb 45 b (λ e. c .if1 .taken (c .before .byte-at .ensures ∙ sym e))) in
+    (search needs, λ i l h. c .before .before .before .pre i (omega (arith, g)) h)
 
 returns : tie.Need-returns
 returns c = c .magnitude .ensures ∙ integer-plain (c .before .before .before .before .args .s .now) (ne-eqb 45 _ (λ e. c .before .if1 .taken (c .before .before .byte-at .ensures ∙ sym e)))
 
 magnitude-requires-2 : tie.Need-magnitude-requires-2
-magnitude-requires-2 c κs = search needs
+magnitude-requires-2 c κs =
+    let b = at (c .before .before .before .args .s .now) 0 in
+    let g = sign-one (is "-") b (eq-eqb 45 b (sym (sym (c .before .byte-at .ensures) ∙ c .if1 .left))) in
+    (search needs, λ i l h. c .before .before .before .pre i (omega (arith, g)) h)
 
 enum-known-v : tie.Need-enum-known-v
 enum-known-v c = search needs

@@ -1,13 +1,12 @@
+-- `tokens::numbers::negative` meets its contract. Assumes nothing.
 use borrow.Author.Needs.{needs}
 use native.Mathlib.Omega.{arith}
-use mathlib.Core.Path.{_≡_, refl, sym, ap, _∙_}
-use Prim.Native.Nat.{_-_, _^_}
+use mathlib.Core.Path.{sym, ap, _∙_}
+use Prim.Native.Nat.{_-_}
 use Rattle.tokens.specs.Numbers.{complementOf}
 use Rattle.tokens.proofs.Digits.{complement-zero, complement-some}
 use Rattle.tokens.proofs.numbers.negative.Statement.{statement}
 use Rattle.tokens.proofs.numbers.negative.Tie as tie
-use Rattle.tokens.proofs.numbers.negative.Reads as reads
-use Rattle.tokens.proofs.numbers.negative.Lts as lts
 
 returns : tie.Need-returns
 returns c = complement-zero ∙ ap complementOf (sym (c .if1 .taken))

@@ -1,6 +1,7 @@
+-- `tokens::numbers::number_len` meets its contract. Assumes nothing.
 use borrow.Author.Needs.{needs}
 use native.Mathlib.Omega.{arith}
-use mathlib.Core.Path.{_≡_, refl, sym, ap, _∙_}
+use mathlib.Core.Path.{_≡_, ap, _∙_}
 use Prim.Native.Nat.{ℕ, _+_, _≤_}
 use lib.ListN.{length, drop, length-drop}
 use Rattle.paper.specs.Scanner.{fraction, exponent}
@@ -9,10 +10,6 @@ use Rattle.tokens.proofs.At.{rest}
 use Rattle.tokens.proofs.Digits.{fraction-le, exponent-le}
 use Rattle.tokens.proofs.numbers.number_len.Statement.{statement}
 use Rattle.tokens.proofs.numbers.number_len.Tie as tie
-use Rattle.tokens.proofs.numbers.number_len.Reads as reads
-use Rattle.tokens.proofs.numbers.number_len.Lts as lts
-use Rattle.tokens.proofs.numbers.exponent_len.Reads as exponent-len-reads
-use Rattle.tokens.proofs.numbers.fraction_len.Reads as fraction-len-reads
 
 -- the fraction's length, of the source's rest
 fraction-is : (c : tie.After-fraction-len) → c .fraction-len .result ≡ fraction (drop (c .before .before .before .args .n) (c .before .before .before .args .s .now))

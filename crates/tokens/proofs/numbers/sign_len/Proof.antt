@@ -1,14 +1,11 @@
+-- `tokens::numbers::sign_len` meets its contract. Assumes nothing.
 use borrow.Author.Needs.{needs}
-use native.Mathlib.Omega.{arith}
-use mathlib.Core.Path.{_≡_, refl, sym, ap, _∙_}
+use mathlib.Core.Path.{sym, _∙_}
 use borrow.Author.Tests.{eq-eqb, ne-eqb}
 use Rattle.paper.specs.Bytes.{at, if_then_else_}
 use Rattle.paper.specs.Scanner.{sign}
 use Rattle.tokens.proofs.numbers.sign_len.Statement.{statement}
 use Rattle.tokens.proofs.numbers.sign_len.Tie as tie
-use Rattle.tokens.proofs.numbers.sign_len.Reads as reads
-use Rattle.tokens.proofs.numbers.sign_len.Lts as lts
-use Rattle.tokens.proofs.class.byte_at.Reads as byte-at-reads
 
 byte-at-requires : tie.Need-byte-at-requires
 byte-at-requires c κs = search needs

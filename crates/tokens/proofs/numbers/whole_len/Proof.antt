@@ -1,14 +1,10 @@
+-- `tokens::numbers::whole_len` meets its contract. Assumes nothing.
 use borrow.Author.Needs.{needs}
-use native.Mathlib.Omega.{arith}
-use mathlib.Core.Path.{_≡_, refl, sym, ap, _∙_}
+use mathlib.Core.Path.{sym, _∙_}
 use borrow.Author.Tests.{eq-eqb, ne-eqb}
 use Rattle.tokens.proofs.Digits.{whole-minus, whole-plain}
 use Rattle.tokens.proofs.numbers.whole_len.Statement.{statement}
 use Rattle.tokens.proofs.numbers.whole_len.Tie as tie
-use Rattle.tokens.proofs.numbers.whole_len.Reads as reads
-use Rattle.tokens.proofs.numbers.whole_len.Lts as lts
-use Rattle.tokens.proofs.class.byte_at.Reads as byte-at-reads
-use Rattle.tokens.proofs.numbers.digits_after.Reads as digits-after-reads
 
 byte-at-requires : tie.Need-byte-at-requires
 byte-at-requires c κs = search needs

@@ -1,18 +1,13 @@
+-- `tokens::scan::ends_at` meets its contract. Assumes nothing.
 use borrow.Author.Needs.{needs}
-use native.Mathlib.Omega.{arith}
 use Prim.Native.Nat.{ℕ}
-use mathlib.Core.Path.{_≡_, refl, sym, ap, _∙_}
+use mathlib.Core.Path.{sym, ap, _∙_}
 use mathlib.Core.Bool.{Bool, not, _||_}
 use borrow.Author.Tests.{le-leb, lt-leb}
 use Rattle.paper.specs.Bytes.{at, is}
-use Rattle.paper.specs.Tokens.{goes-on}
 use Rattle.tokens.specs.Scans.{endsAt}
 use Rattle.tokens.proofs.scan.ends_at.Statement.{statement}
 use Rattle.tokens.proofs.scan.ends_at.Tie as tie
-use Rattle.tokens.proofs.scan.ends_at.Reads as reads
-use Rattle.tokens.proofs.scan.ends_at.Lts as lts
-use Rattle.tokens.proofs.class.byte_at.Reads as byte-at-reads
-use Rattle.tokens.proofs.class.class_at.Reads as class-at-reads
 
 class-at-requires : tie.Need-class-at-requires
 class-at-requires c κs = search needs

@@ -1,13 +1,10 @@
+-- `tokens::scan::integer_token` meets its contract. Assumes nothing.
 use borrow.Author.Needs.{needs}
-use native.Mathlib.Omega.{arith}
-use mathlib.Core.Path.{_≡_, refl, sym, ap, _∙_}
+use mathlib.Core.Path.{sym, ap, _∙_}
 use lib.ListN.{length}
 use Rattle.tokens.proofs.Fronts.{asFront, integer-front}
 use Rattle.tokens.proofs.scan.integer_token.Statement.{statement}
 use Rattle.tokens.proofs.scan.integer_token.Tie as tie
-use Rattle.tokens.proofs.scan.integer_token.Reads as reads
-use Rattle.tokens.proofs.scan.integer_token.Lts as lts
-use Rattle.tokens.proofs.numbers.integer.Reads as integer-reads
 
 integer-requires : tie.Need-integer-requires
 integer-requires c κs = search needs

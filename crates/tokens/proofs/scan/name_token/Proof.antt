@@ -1,12 +1,12 @@
+-- `tokens::scan::name_token` meets its contract. Assumes nothing.
 use borrow.Author.Needs.{needs}
 use native.Mathlib.Omega.{arith}
-use mathlib.Core.Path.{_≡_, refl, sym, ap, _∙_}
-use mathlib.Core.List.{List}
+use mathlib.Core.Path.{ap, _∙_}
 use Prim.Native.Nat.{ℕ}
 use native.Mathlib.Nat.{sub-zero}
-use lib.ListN.{length, take, drop}
+use lib.ListN.{take}
 use Rattle.paper.specs.Tokens.{goes-on, reserved}
-use Rattle.paper.specs.Scanner.{span, named}
+use Rattle.paper.specs.Scanner.{named}
 use Rattle.paper.proofs.Laws.Rescan.{span-le}
 use Rattle.tokens.specs.declared.scan.Front.the-variants.{Read}
 use Rattle.tokens.specs.Kinds.{wordFrom}
@@ -14,10 +14,6 @@ use Rattle.tokens.specs.Scans.{scanOf}
 use Rattle.tokens.proofs.Fronts.{name-fits, name-long}
 use Rattle.tokens.proofs.scan.name_token.Statement.{statement}
 use Rattle.tokens.proofs.scan.name_token.Tie as tie
-use Rattle.tokens.proofs.scan.name_token.Reads as reads
-use Rattle.tokens.proofs.scan.name_token.Lts as lts
-use Rattle.tokens.proofs.names.kind_of.Reads as kind-of-reads
-use Rattle.tokens.proofs.names.name_len.Reads as name-len-reads
 
 name-len-requires : tie.Need-name-len-requires
 name-len-requires c κs = search needs

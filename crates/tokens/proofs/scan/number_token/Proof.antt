@@ -1,21 +1,19 @@
+-- `tokens::scan::number_token` meets its contract. Assumes nothing.
 use borrow.Author.Needs.{needs}
 use native.Mathlib.Omega.{arith}
-use mathlib.Core.Path.{_≡_, refl, sym, ap, _∙_}
+use mathlib.Core.Path.{refl, sym, ap, _∙_, subst}
 use Prim.Native.Nat.{ℕ, _≤_}
 use native.Mathlib.Nat.{sub-zero}
 use borrow.Author.Tests.{not-true, not-false}
 use lib.ListN.{length, take}
+use Rattle.paper.specs.Bytes.{at, is}
+use Rattle.paper.specs.Scanner.{sign}
+use Rattle.tokens.specs.Numbers.{Digits}
 use Rattle.tokens.specs.Scans.{integerFront}
-use Rattle.tokens.proofs.Digits.{whole-le}
+use Rattle.tokens.proofs.Digits.{whole-le, whole-digits}
 use Rattle.tokens.proofs.Fronts.{number-none, number-follows, number-decimal, number-long, number-integer, same-number}
 use Rattle.tokens.proofs.scan.number_token.Statement.{statement}
 use Rattle.tokens.proofs.scan.number_token.Tie as tie
-use Rattle.tokens.proofs.scan.number_token.Reads as reads
-use Rattle.tokens.proofs.scan.number_token.Lts as lts
-use Rattle.tokens.proofs.numbers.number_len.Reads as number-len-reads
-use Rattle.tokens.proofs.numbers.whole_len.Reads as whole-len-reads
-use Rattle.tokens.proofs.scan.ends_at.Reads as ends-at-reads
-use Rattle.tokens.proofs.scan.integer_token.Reads as integer-token-reads
 
 in-source : (c : tie.After-whole-len) → c .whole-len .result ≤ length (c .before .before .args .s .now)
 in-source c = omega (arith, c .whole-len .ensures, whole-le (c .before .before .args .s .now))
@@ -47,7 +45,10 @@ part-integer-token-end : tie.Need-part-integer-token-end
 part-integer-token-end c = omega (arith, in-source (c .before .before .before .before .before))
 
 integer-token-requires : tie.Need-integer-token-requires
-integer-token-requires c κs = search needs
+integer-token-requires c κs =
+    let s = c .before .before .before .before .before .before .before .before .args .s .now in
+    let n = c .before .before .before .before .before .before .whole-len .result in
+    subst (λ (k : ℕ). Digits (take k s) (sign (is "-") (at (take k s) 0))) (sym (sub-zero n)) (whole-digits n s (c .before .before .before .before .before .before .whole-len .ensures))
 
 returns-3 : tie.Need-returns-3
 returns-3 c =

@@ -1,11 +1,12 @@
+-- `tokens::scan::scan_front` meets its contract. Assumes nothing.
 use borrow.Author.Needs.{needs}
 use native.Mathlib.Omega.{arith}
-use mathlib.Core.Path.{_≡_, refl, sym, ap, _∙_}
-use mathlib.Core.Bool.{true, false, _||_}
+use mathlib.Core.Path.{_≡_, sym, ap, _∙_}
+use mathlib.Core.Bool.{false, _||_}
 use Prim.Native.Nat.{ℕ}
 use borrow.Author.Tests.{eq-eqb, ne-eqb, le-leb, lt-leb}
 use Rattle.paper.specs.Bytes.{at, is}
-use Rattle.paper.specs.Tokens.{starts, digit, goes-on}
+use Rattle.paper.specs.Tokens.{starts, digit}
 use Rattle.tokens.specs.declared.Kind.the-variants.{Mark}
 use Rattle.tokens.specs.declared.scan.Front.the-variants.{Read}
 use Rattle.tokens.specs.Kinds.{kindOf}
@@ -14,12 +15,6 @@ use Rattle.tokens.proofs.At.{at-in}
 use Rattle.tokens.proofs.Fronts.{scan-end, scan-name, scan-number, scan-string, scan-mark, scan-other, number-first, no-number}
 use Rattle.tokens.proofs.scan.scan_front.Statement.{statement}
 use Rattle.tokens.proofs.scan.scan_front.Tie as tie
-use Rattle.tokens.proofs.scan.scan_front.Reads as reads
-use Rattle.tokens.proofs.scan.scan_front.Lts as lts
-use Rattle.tokens.proofs.class.class_at.Reads as class-at-reads
-use Rattle.tokens.proofs.scan.name_token.Reads as name-token-reads
-use Rattle.tokens.proofs.scan.number_token.Reads as number-token-reads
-use Rattle.tokens.proofs.scan.string_token.Reads as string-token-reads
 
 -- what the tests on the way say of the first byte
 no-start : (c : tie.Else2) → starts (at (c .before .before .before .before .args .s .now) 0) ≡ false

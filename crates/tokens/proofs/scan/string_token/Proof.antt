@@ -1,14 +1,11 @@
+-- `tokens::scan::string_token` meets its contract. Assumes nothing.
 use borrow.Author.Needs.{needs}
-use native.Mathlib.Omega.{arith}
-use mathlib.Core.Path.{_≡_, refl, sym, ap, _∙_}
+use mathlib.Core.Path.{sym, ap, _∙_}
 use lib.ListN.{drop}
 use Rattle.tokens.specs.Text.{quotes}
 use Rattle.tokens.proofs.Fronts.{asText, text-front, text-fits, text-long}
 use Rattle.tokens.proofs.scan.string_token.Statement.{statement}
 use Rattle.tokens.proofs.scan.string_token.Tie as tie
-use Rattle.tokens.proofs.scan.string_token.Reads as reads
-use Rattle.tokens.proofs.scan.string_token.Lts as lts
-use Rattle.tokens.proofs.text.measure.Reads as measure-reads
 
 measure-requires : tie.Need-measure-requires
 measure-requires c κs = search needs

@@ -1,25 +1,20 @@
+-- `tokens::text::decode_one` meets its contract. Assumes nothing.
 use borrow.Author.Needs.{needs}
 use native.Mathlib.Omega.{arith}
-use mathlib.Core.Path.{_≡_, refl, sym, ap, ap₂, _∙_}
-use mathlib.Core.Bool.{Bool, true, false, _||_}
+use mathlib.Core.Path.{_≡_, sym, ap, _∙_}
+use mathlib.Core.Bool.{false}
 use mathlib.Core.List.{List}
-use Prim.Native.Nat.{ℕ, _<_}
-use borrow.Author.Tests.{eq-eqb, ne-eqb}
+use Prim.Native.Nat.{ℕ}
+use borrow.Author.Tests.{ne-eqb}
 use lib.ListN.{length, getD}
 use Rattle.paper.specs.Tokens.{escaped}
 use Rattle.tokens.specs.Text.{escapeOf}
-use Rattle.paper.specs.Bytes.{at, is, among}
+use Rattle.paper.specs.Bytes.{at, among}
 use Rattle.tokens.specs.declared.text.Meant.the-variants.{Byte}
 use Rattle.tokens.proofs.At.{at-in}
 use Rattle.tokens.proofs.Strings.{meant-end, meant-line, meant-plain, meant-octals, meant-escape}
 use Rattle.tokens.proofs.text.decode_one.Statement.{statement}
 use Rattle.tokens.proofs.text.decode_one.Tie as tie
-use Rattle.tokens.proofs.text.decode_one.Reads as reads
-use Rattle.tokens.proofs.text.decode_one.Lts as lts
-use Rattle.tokens.proofs.class.byte_at.Reads as byte-at-reads
-use Rattle.tokens.proofs.text.escape.Reads as escape-reads
-use Rattle.tokens.proofs.text.octal_byte.Reads as octal-byte-reads
-use Rattle.tokens.proofs.text.octals.Reads as octals-reads
 
 -- the first byte is there
 first : (s : List ℕ) → (length s ≡ 0 → ⊥) → getD s 0 0 ≡ at s 0

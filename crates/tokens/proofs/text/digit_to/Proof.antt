@@ -1,11 +1,7 @@
-use borrow.Author.Needs.{needs}
-use native.Mathlib.Omega.{arith}
-use mathlib.Core.Path.{_≡_, refl, sym, ap, _∙_}
+-- `tokens::text::digit_to` meets its contract. Assumes nothing.
 use borrow.Author.Tests.{le-leb, lt-leb}
 use Rattle.tokens.proofs.text.digit_to.Statement.{statement}
 use Rattle.tokens.proofs.text.digit_to.Tie as tie
-use Rattle.tokens.proofs.text.digit_to.Reads as reads
-use Rattle.tokens.proofs.text.digit_to.Lts as lts
 
 returns : tie.Need-returns
 returns c = simp (lt-leb 48 (c .before .args .b) (c .if1 .taken))

@@ -1,16 +1,13 @@
+-- `tokens::text::escape` meets its contract. Assumes nothing.
 use borrow.Author.Needs.{needs}
-use native.Mathlib.Omega.{arith}
-use mathlib.Core.Path.{_≡_, refl, sym, ap, _∙_}
+use mathlib.Core.Path.{sym, _∙_}
 use borrow.Author.Tests.{eq-eqb, ne-eqb}
 use Rattle.paper.specs.Bytes.{if_then_else_}
 use Rattle.paper.specs.Tokens.{escaped}
-use Rattle.tokens.specs.Text.{escapeOf, itselfOf}
+use Rattle.tokens.specs.Text.{escapeOf}
 use Rattle.tokens.proofs.Strings.{itself-escaped}
 use Rattle.tokens.proofs.text.escape.Statement.{statement}
 use Rattle.tokens.proofs.text.escape.Tie as tie
-use Rattle.tokens.proofs.text.escape.Reads as reads
-use Rattle.tokens.proofs.text.escape.Lts as lts
-use Rattle.tokens.proofs.text.itself.Reads as itself-reads
 
 returns : tie.Need-returns
 unfolding escapeOf escaped if_then_else_

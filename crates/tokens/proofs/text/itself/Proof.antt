@@ -1,15 +1,11 @@
-use borrow.Author.Needs.{needs}
-use native.Mathlib.Omega.{arith}
-use mathlib.Core.Path.{_≡_, refl, sym, ap, _∙_}
-use borrow.Author.Tests.{eq-eqb, ne-eqb}
+-- `tokens::text::itself` meets its contract. Assumes nothing.
+use mathlib.Core.Path.{refl, sym}
+use borrow.Author.Tests.{ne-eqb}
 use Rattle.paper.specs.Bytes.{if_then_else_}
-use Rattle.paper.specs.Tokens.{escaped}
-use Rattle.tokens.specs.Text.{escapeOf, itselfOf}
+use Rattle.tokens.specs.Text.{itselfOf}
 use Rattle.tokens.proofs.Strings.{itself-is}
 use Rattle.tokens.proofs.text.itself.Statement.{statement}
 use Rattle.tokens.proofs.text.itself.Tie as tie
-use Rattle.tokens.proofs.text.itself.Reads as reads
-use Rattle.tokens.proofs.text.itself.Lts as lts
 
 returns : tie.Need-returns
 unfolding itselfOf if_then_else_

@@ -1,21 +1,17 @@
+-- `tokens::text::measure` meets its contract. Assumes nothing.
 use borrow.Author.Needs.{needs}
 use native.Mathlib.Omega.{arith}
-use mathlib.Core.Path.{_≡_, refl, sym, ap, ap₂, _∙_}
-use mathlib.Core.List.{List, []}
-use mathlib.Core.Option.{some}
-use Prim.Native.Nat.{ℕ, _+_, _-_, _≤_, _<_}
-use lib.ListN.{length, drop, getD}
+use mathlib.Core.Path.{_≡_, refl, sym, ap, _∙_}
+use mathlib.Core.List.{List}
+use Prim.Native.Nat.{ℕ, _+_, _-_, _≤_}
+use lib.ListN.{length, drop}
 use Rattle.paper.specs.Scanner.{meant}
-use Rattle.tokens.specs.declared.text.Meant.the-variants.{Byte, Bad}
 use Rattle.tokens.specs.declared.text.Quoted.the-variants.{Closed}
 use Rattle.tokens.specs.Text.{meantOf, quotes, quotedOf}
 use Rattle.tokens.proofs.At.{rest}
 use Rattle.tokens.proofs.Strings.{more, quotes-end, quotes-close, quotes-bad, quotes-more, measured-more}
 use Rattle.tokens.proofs.text.measure.Statement.{statement}
 use Rattle.tokens.proofs.text.measure.Tie as tie
-use Rattle.tokens.proofs.text.measure.Reads as reads
-use Rattle.tokens.proofs.text.measure.Lts as lts
-use Rattle.tokens.proofs.text.decode_one.Reads as decode-one-reads
 
 abbrev Inv-loop : tie.InvT-loop
 Inv-loop s from i₀ n₀ i n = (n ≤ i) × (quotedOf 0 from (quotes (drop from s)) ≡ quotedOf n i (quotes (drop i s)))

@@ -1,13 +1,10 @@
+-- `tokens::text::octal_byte` meets its contract. Assumes nothing.
 use borrow.Author.Needs.{needs}
 use native.Mathlib.Omega.{arith}
-use mathlib.Core.Path.{_≡_, refl, sym, ap, _∙_}
 use Rattle.tokens.specs.Text.{octalValue}
 use Rattle.tokens.proofs.Strings.{octal-bounds}
 use Rattle.tokens.proofs.text.octal_byte.Statement.{statement}
 use Rattle.tokens.proofs.text.octal_byte.Tie as tie
-use Rattle.tokens.proofs.text.octal_byte.Reads as reads
-use Rattle.tokens.proofs.text.octal_byte.Lts as lts
-use Rattle.tokens.proofs.class.byte_at.Reads as byte-at-reads
 
 byte-at-requires : tie.Need-byte-at-requires
 byte-at-requires c κs = search needs

@@ -1,19 +1,15 @@
+-- `tokens::text::octals` meets its contract. Assumes nothing.
 use borrow.Author.Needs.{needs}
-use native.Mathlib.Omega.{arith}
 use mathlib.Core.Path.{_≡_, refl, sym, ap, _∙_}
 use mathlib.Core.Bool.{Bool, true, false, _&&_}
 use Prim.Native.Nat.{ℕ}
 use borrow.Author.Tests.{not-true, not-false}
 use lib.Dec.{leb}
-use Rattle.paper.specs.Bytes.{at, between}
+use Rattle.paper.specs.Bytes.{at}
 use Rattle.paper.specs.Tokens.{octal}
 use Rattle.tokens.specs.Text.{octalsAt}
 use Rattle.tokens.proofs.text.octals.Statement.{statement}
 use Rattle.tokens.proofs.text.octals.Tie as tie
-use Rattle.tokens.proofs.text.octals.Reads as reads
-use Rattle.tokens.proofs.text.octals.Lts as lts
-use Rattle.tokens.proofs.class.byte_at.Reads as byte-at-reads
-use Rattle.tokens.proofs.text.digit_to.Reads as digit-to-reads
 
 -- what a test of a byte says of it
 said : (b n last : ℕ) (t v : Bool) → t ≡ (leb 48 b && leb b last) → b ≡ n → t ≡ v → (leb 48 n && leb n last) ≡ v

@@ -1,21 +1,18 @@
+-- `tokens::text::write_text` meets its contract. Assumes nothing.
 use borrow.Author.Needs.{needs}
 use native.Mathlib.Omega.{arith}
-use mathlib.Core.Path.{_≡_, refl, sym, ap, ap₂, _∙_}
-use mathlib.Core.Bool.{true, false, true≢false}
-use mathlib.Core.List.{List, [], _∷_}
-use mathlib.Core.Option.{some}
+use mathlib.Core.Path.{_≡_, refl, sym, ap, _∙_}
+use mathlib.Core.Bool.{true, true≢false}
+use mathlib.Core.List.{List}
 use Prim.Native.Nat.{ℕ, _+_, _-_, _≤_, _<_}
 use lib.ListN.{length, drop, getD, set, length-set}
 use lib.Seq.{paste, paste-zero}
 use Rattle.paper.specs.Scanner.{meant}
-use Rattle.tokens.specs.Text.{meantOf, quotes, isClosed, textIn, put}
+use Rattle.tokens.specs.Text.{meantOf, quotes, isClosed, textIn}
 use Rattle.tokens.proofs.At.{rest}
-use Rattle.tokens.proofs.Strings.{more, quotes-end, quotes-close, quotes-bad, quotes-more, decoded-more, next-of, put-more, put-all}
+use Rattle.tokens.proofs.Strings.{quotes-end, quotes-close, quotes-bad, quotes-more, decoded-more, next-of, put-more, put-all}
 use Rattle.tokens.proofs.text.write_text.Statement.{statement}
 use Rattle.tokens.proofs.text.write_text.Tie as tie
-use Rattle.tokens.proofs.text.write_text.Reads as reads
-use Rattle.tokens.proofs.text.write_text.Lts as lts
-use Rattle.tokens.proofs.text.decode_one.Reads as decode-one-reads
 
 -- what the string means
 abbrev all : List ℕ → List ℕ

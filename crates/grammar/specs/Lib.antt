@@ -1,0 +1,11 @@
+pub mod Drafts
+pub mod Places
+pub mod Ties
+pub mod Seen
+pub mod Paths
+pub mod Basics
+pub mod Values
+pub mod Puts
+pub mod Went
+pub mod Readers
+pub mod Reads

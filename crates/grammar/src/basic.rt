@@ -1,0 +1,152 @@
+// Basics, as far as they can be read without a stack: whole, or up to a vector's bracket.
+use crate::path::Path;
+use crate::path::read_path;
+use crate::token::Literal;
+use crate::token::Seen;
+use crate::token::Word;
+use crate::token::token_at;
+ghost use mathlib.Core.Path.{_≡_};
+ghost use Prim.Native.Nat.{_≤_};
+ghost use lib.ListN.{length};
+ghost use Rattle.grammar.specs.Seen.{WordIs};
+ghost use Rattle.grammar.specs.Basics.{FoundIs, laidOf};
+
+// The basic kinds with their data. A text is kept as the place where it stands and the bytes that it will take.
+pub enum Basic {
+    Boolean(bool),
+    Null,
+    Integer(u64),
+    Decimal { place: usize, size: usize },
+    Text { place: usize, size: usize },
+    Data { place: usize, size: usize },
+    Vector { place: usize },
+}
+
+pub enum Found {
+    Basic { basic: Basic, next: usize },
+    Fault { number: usize, place: usize },
+}
+
+fn of_word(src: &[u8], at: usize, word: Word, place: usize, next: usize) -> Found
+    requires { ⌜ WordIs (now src) at place next word ⌝ }
+    ensures { λ r. ⌜ FoundIs (now (src .entry)) at r ⌝ }
+{
+    match word {
+        Word::True => Found::Basic {
+            basic: Basic::Boolean(true),
+            next,
+        },
+        Word::False => Found::Basic {
+            basic: Basic::Boolean(false),
+            next,
+        },
+        Word::Null => Found::Basic {
+            basic: Basic::Null,
+            next,
+        },
+        Word::Data => match read_path(src, next) {
+            Path::Whole { next: past, size } => Found::Basic {
+                basic: Basic::Data { place: next, size },
+                next: past,
+            },
+            Path::Broken { number, place } => Found::Fault { number, place },
+        },
+        Word::Extends => Found::Fault { number: 3, place },
+        Word::Other => Found::Fault { number: 3, place },
+    }
+}
+
+pub(crate) fn find_basic(src: &[u8], at: usize) -> Found
+    requires { ⌜ at ≤ length (now src) ⌝ }
+    ensures { λ r. ⌜ FoundIs (now (src .entry)) at r ⌝ }
+{
+    match token_at(src, at) {
+        Seen::Reserved { word, place, next } => of_word(src, at, word, place, next),
+        Seen::Written {
+            literal,
+            place,
+            next,
+        } => match literal {
+            Literal::Integer(bits) => Found::Basic {
+                basic: Basic::Integer(bits),
+                next,
+            },
+            Literal::Decimal => Found::Basic {
+                basic: Basic::Decimal {
+                    place,
+                    size: next - place + 2,
+                },
+                next,
+            },
+            Literal::Text(n) => Found::Basic {
+                basic: Basic::Text { place, size: n + 2 },
+                next,
+            },
+        },
+        Seen::Mark { byte, place, next } => {
+            if byte == b'[' {
+                return Found::Basic {
+                    basic: Basic::Vector { place },
+                    next,
+                };
+            }
+            Found::Fault { number: 3, place }
+        }
+        Seen::Name { place, next: _ } => Found::Fault { number: 3, place },
+        Seen::End { place } => Found::Fault { number: 3, place },
+        Seen::Fault { number, place } => Found::Fault { number, place },
+    }
+}
+
+// A basic as a draft has it: kind, value and size; or a vector, of which only the bracket is read.
+pub enum Laid {
+    Plain { kind: u16, value: u64, size: usize },
+    Opened { place: usize },
+}
+
+pub fn lay(basic: Basic) -> Laid
+    ensures { λ r. ⌜ r ≡ laidOf basic ⌝ }
+{
+    match basic {
+        Basic::Boolean(b) => {
+            if b {
+                return Laid::Plain {
+                    kind: 1,
+                    value: 1,
+                    size: 0,
+                };
+            }
+            Laid::Plain {
+                kind: 1,
+                value: 0,
+                size: 0,
+            }
+        }
+        Basic::Null => Laid::Plain {
+            kind: 2,
+            value: 0,
+            size: 0,
+        },
+        Basic::Integer(bits) => Laid::Plain {
+            kind: 3,
+            value: bits,
+            size: 0,
+        },
+        Basic::Decimal { place, size } => Laid::Plain {
+            kind: 4,
+            value: place as u64,
+            size,
+        },
+        Basic::Text { place, size } => Laid::Plain {
+            kind: 5,
+            value: place as u64,
+            size,
+        },
+        Basic::Data { place, size } => Laid::Plain {
+            kind: 6,
+            value: place as u64,
+            size,
+        },
+        Basic::Vector { place } => Laid::Opened { place },
+    }
+}
