@@ -1,0 +1,10 @@
+pub mod Texts
+pub mod Leaves
+pub mod Heads
+pub mod Steps
+pub mod Inside
+pub mod Children
+pub mod Headers
+pub mod Lowers
+pub mod Moves
+pub mod Mains

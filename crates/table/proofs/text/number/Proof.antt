@@ -1,0 +1,21 @@
+-- `table::text::number` meets its contract. Assumes nothing.
+use mathlib.Core.Path.{_∙_}
+use Rattle.memory.proofs.Laws.{word-in}
+use borrow.Author.Needs.{needs}
+use Rattle.table.proofs.text.number.Statement.{statement}
+use Rattle.table.proofs.text.number.Tie as tie
+use Rattle.table.proofs.text.number.Reads as reads
+use Rattle.table.proofs.text.number.Lts as lts
+use Rattle.memory.proofs.get16.Reads as get16-reads
+
+get16-requires : tie.Need-get16-requires
+get16-requires c κs = search needs
+
+cast-result : tie.Need-cast-result
+cast-result c = search needs
+
+returns : tie.Need-returns
+returns c = c .get16 .ensures ∙ word-in 2 _ _ (c .before .before .pre)
+
+pub number-spec : {M : Type 1} → statement M
+number-spec = tie.close (tie.spec get16-requires cast-result returns)

@@ -1,0 +1,29 @@
+-- `table::whole::records_of` meets its contract. Assumes nothing.
+use native.Mathlib.Nat.{add-sub-cancel-left}
+use borrow.Author.Needs.{needs}
+use Rattle.table.proofs.whole.records_of.Statement.{statement}
+use Rattle.table.proofs.whole.records_of.Tie as tie
+use Rattle.table.proofs.whole.records_of.Reads as reads
+use Rattle.table.proofs.whole.records_of.Lts as lts
+
+mul-end : tie.Need-mul-end
+mul-end c = search needs
+
+add-end : tie.Need-add-end
+add-end c = search needs
+
+sub-result : tie.Need-sub-result
+sub-result c = search needs
+
+part-result-start : tie.Need-part-result-start
+part-result-start c = search needs
+
+part-result-end : tie.Need-part-result-end
+part-result-end c = search needs
+
+returns : tie.Need-returns
+returns c = rw add-sub-cancel-left
+
+pub records-of-spec : {M : Type 1} → statement M
+records-of-spec =
+    tie.close (tie.spec mul-end add-end sub-result part-result-start part-result-end returns)

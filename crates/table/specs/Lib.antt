@@ -1,0 +1,6 @@
+pub mod Text
+pub mod Walk
+pub mod Child
+pub mod Whole
+pub mod Lower
+pub mod Main

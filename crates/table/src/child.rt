@@ -1,0 +1,88 @@
+// A look among the attributes of a component, in the records of a table.
+use crate::text::byte;
+use crate::text::number;
+use memory::fits;
+use memory::get16;
+use memory::part;
+ghost use mathlib.Core.Path.{_≡_};
+ghost use Prim.Native.Nat.{_+_, _*_, _≤_, _<_};
+ghost use lib.ListN.{length};
+ghost use Rattle.paper.specs.Bytes.{same};
+ghost use Rattle.paper.proofs.Laws.DecodeAt.{word};
+ghost use Rattle.table.specs.Child.{named-at, SpanAt, FoundIs};
+
+pub enum Found {
+    At(usize),
+    Nothing,
+}
+
+fn same_bytes(a: &[u8], b: &[u8]) -> bool
+    ensures { λ r. ⌜ r ≡ same (now (a .entry)) (now (b .entry)) ⌝ }
+{
+    if a.len() != b.len() {
+        return false;
+    }
+    let mut i = 0;
+    while i < a.len() {
+        if a[i] != b[i] {
+            return false;
+        }
+        i += 1;
+    }
+    true
+}
+
+// The place of the text of a record's name.
+pub(crate) fn label(recs: &[u8], i: usize) -> usize
+    requires { ⌜ i + 16 ≤ length (now recs) ⌝ }
+    ensures { λ r. ⌜ (r ≡ word 2 (now (recs .entry)) (i + 4)) × (r < 65536) ⌝ }
+{
+    get16(recs, i + 4) as usize
+}
+
+pub(crate) fn name_at<'a, 'b>(recs: &'b [u8], text: &'a [u8], i: usize) -> &'a [u8]
+    requires { ⌜ i + 16 ≤ length (now recs) ⌝ }
+    ensures { λ r. ⌜ now r ≡ named-at (now (recs .entry)) (now (text .entry)) i ⌝ }
+{
+    let p = label(recs, i);
+    part(text, p + 1, byte(text, p))
+}
+
+// The span of a record, or 0 where it would lead outside.
+pub fn span_at(recs: &[u8], i: usize, left: usize) -> usize
+    ensures { λ r. ⌜ SpanAt (now (recs .entry)) i left r ⌝ }
+{
+    if !fits(recs.len(), i, 16) {
+        return 0;
+    }
+    let span = number(recs, i + 6);
+    if left < span {
+        return 0;
+    }
+    if recs.len() / 16 < span {
+        return 0;
+    }
+    if !fits(recs.len(), i, 16 * span) {
+        return 0;
+    }
+    span
+}
+
+pub fn find_child(recs: &[u8], text: &[u8], from: usize, n: usize, name: &[u8]) -> Found
+    ensures { λ r. ⌜ FoundIs (now (recs .entry)) (now (text .entry)) from n (now (name .entry)) r ⌝ }
+{
+    let mut i = from;
+    let mut left = n;
+    while 0 < left {
+        let span = span_at(recs, i, left);
+        if span < 1 {
+            return Found::Nothing;
+        }
+        if same_bytes(name_at(recs, text, i), name) {
+            return Found::At(i);
+        }
+        i += 16 * span;
+        left -= span;
+    }
+    Found::Nothing
+}

@@ -1,0 +1,12 @@
+// Tables: whether bytes are one, a look into one, and the main table of one.
+mod child;
+mod lower;
+mod once;
+mod operation;
+mod text;
+mod walk;
+mod whole;
+
+pub use operation::Answer;
+pub use operation::main;
+pub use whole::is_table;
