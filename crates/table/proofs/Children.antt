@@ -1,27 +1,27 @@
 -- The rules of a look among attributes, and of the test that no name stands twice, one for each way through the code. Assumes nothing.
-use Prim.Native.Nat.{ℕ, zero, suc, _+_, _*_, _-_, _≤_, _<_}
+use Prim.Native.Nat.{ℕ, suc, _+_, _*_, _-_, _≤_, _<_}
 use native.Mathlib.Omega.{arith}
 use native.Mathlib.Numerals.{add-one}
 use mathlib.Core.Path.{_≡_, refl, sym, _∙_, ap}
 use mathlib.Core.Bool.{Bool, true, false, _&&_}
 use mathlib.Core.List.{List, [], _∷_}
-use mathlib.Core.Option.{Option, none, some}
+use mathlib.Core.Option.{none, some}
 use lib.ListN.{length, drop, getD, drop-of-length-le}
 use lib.Seq.{drop-cons}
 use lib.Dec.{eqb}
 use borrow.Author.Tests.{eq-eqb, ne-eqb}
 use Rattle.paper.specs.Bytes.{same, if_then_else_}
-use Rattle.paper.specs.Maybe.{_>>=_, require}
+use Rattle.paper.specs.Maybe.{require}
 use Rattle.paper.specs.Store.{Store, ∅, entry, Value, component, lookup}
 use Rattle.paper.specs.Store as S
 use Rattle.paper.specs.Decoder.{Cursor}
-use Rattle.paper.specs.TableDecoder.{in-table, absent, distinct, distinct-in}
+use Rattle.paper.specs.TableDecoder.{in-table, absent, distinct}
 use Rattle.paper.proofs.Laws.DecodeAt.{Bytes, word, raw-at, cursor}
-use Rattle.paper.proofs.Laws.DecodeFree.{basic-from, entries-from, entries-none, entry-value}
+use Rattle.paper.proofs.Laws.DecodeFree.{basic-from, entries-none, entry-value}
 use Rattle.table.specs.declared.child.Found.{Found}
 use Rattle.table.specs.declared.child.Found.the-variants.{At, Nothing}
-use Rattle.table.specs.Walk.{value-here, entries-here}
-use Rattle.table.specs.Child.{named-at, Spanned, SpanAt, ChildAt, Child, Holds, FoundIs, AloneIs, DistinctIs, DistinctInIs}
+use Rattle.table.specs.Walk.{entries-here}
+use Rattle.table.specs.Child.{named-at, Spanned, SpanAt, Child, Holds, FoundIs, AloneIs, DistinctIs, DistinctInIs}
 use Rattle.table.proofs.Inside.{bind-some, some-is, Entry, entry-of}
 
 -- ---- two runs of bytes

@@ -1,11 +1,11 @@
 -- The header of a table, and the whole of one: the paper's readers, one law for each way through the code. Assumes nothing.
-use Prim.Native.Nat.{ℕ, zero, suc, _+_, _*_, _-_, _≤_, _<_}
+use Prim.Native.Nat.{ℕ, _+_, _*_, _-_, _≤_, _<_}
 use native.Mathlib.Omega.{arith}
 use mathlib.Core.Path.{_≡_, refl, sym, _∙_, ap}
 use mathlib.Core.Bool.{Bool, true, false, not}
-use mathlib.Core.List.{List, [], _∷_}
+use mathlib.Core.List.{List}
 use mathlib.Core.Option.{Option, none, some}
-use lib.ListN.{length, take, drop, getD, length-append, length-drop, drop-of-length-le}
+use lib.ListN.{length, drop, length-append, length-drop, drop-of-length-le}
 use lib.Seq.{drop-cons}
 use lib.Dec.{leb, eqb}
 use borrow.Author.Tests.{le-leb, lt-leb, eq-eqb, ne-eqb}
@@ -14,14 +14,14 @@ use Rattle.paper.specs.Maybe.{_>>=_, require}
 use Rattle.paper.specs.Store.{Store}
 use Rattle.paper.specs.Decoder.{Cursor, number-of, header, ended}
 use Rattle.paper.specs.TableDecoder.{absent, distinct, table-of}
-use Rattle.paper.proofs.Decoded.Header.{headed, HeaderRead, header-sound}
+use Rattle.paper.proofs.Decoded.Header.{headed, header-sound}
 use Rattle.paper.proofs.Decoded.Parts.{length-little}
-use Rattle.paper.proofs.Laws.Found.{Found, found-some}
+use Rattle.paper.proofs.Laws.Found.{found-some}
 use Rattle.paper.proofs.Laws.DecodeAt.{Bytes, word, cursor, number-at}
-use Rattle.paper.proofs.Laws.DecodeFree.{entries-from, table-of-is}
+use Rattle.paper.proofs.Laws.DecodeFree.{table-of-is}
 use Rattle.table.specs.declared.walk.Walk.the-variants.{Walked}
 use Rattle.table.specs.Walk.{WalkIs, entries-here}
-use Rattle.table.specs.Child.{Holds, DistinctIs}
+use Rattle.table.specs.Child.{DistinctIs}
 use Rattle.table.specs.Whole.{is-table-of, store-in, whole-in, records-in, text-in, Sized}
 
 abbrev read : List ℕ → Option (ℕ × Cursor)

@@ -1,7 +1,7 @@
 -- What a record's head says, and what the paper's readers do with it. Assumes nothing.
 use Prim.Native.Nat.{ℕ, zero, suc, _+_, _-_, _≤_, _<_}
 use native.Mathlib.Omega.{arith}
-use mathlib.Core.Path.{_≡_, refl, sym, _∙_, ap}
+use mathlib.Core.Path.{_≡_, refl, _∙_}
 use mathlib.Core.Bool.{Bool, true, false, _&&_}
 use mathlib.Core.List.{List}
 use mathlib.Core.Option.{Option, none, some}
@@ -9,16 +9,16 @@ use lib.ListN.{length, drop}
 use lib.Dec.{leb, eqb}
 use borrow.Author.Tests.{leb-true, leb-false, eqb-true, le-leb, lt-leb, eq-eqb, ne-eqb}
 use Rattle.paper.specs.Maybe.{_>>=_, require}
-use Rattle.paper.specs.Syntax.{Name, Basic, Basics, _∷ⱽ_}
-use Rattle.paper.specs.Store.{Store, entry, Value}
-use Rattle.paper.specs.Decoder.{Cursor, Raw, record-at, field, name-of}
+use Rattle.paper.specs.Syntax.{_∷ⱽ_}
+use Rattle.paper.specs.Store.{entry}
+use Rattle.paper.specs.Decoder.{record-at, field, name-of}
 use Rattle.paper.specs.TableDecoder.{in-table}
 use Rattle.paper.proofs.Laws.DecodeAt.{Bytes, word, raw-at, cursor, record-here, record-short, field-misplaced, field-none}
 use Rattle.paper.proofs.Laws.DecodeFree.{basic-from, elements-from, element-body, elements-some, entries-from, entry-value, entry-body, entries-some}
 use Rattle.table.specs.declared.text.Past.{Past}
 use Rattle.table.specs.declared.text.Past.the-variants.{At, Bad}
-use Rattle.table.specs.Text.{Ends, PastIs}
-use Rattle.table.specs.Walk.{heads, Headed, LabelIs}
+use Rattle.table.specs.Text.{PastIs}
+use Rattle.table.specs.Walk.{heads, LabelIs}
 use Rattle.table.proofs.Leaves.{field-ends}
 
 -- ---- the head

@@ -1,32 +1,29 @@
 -- Attributes seen from inside a table: what a store's attributes say of the records that they were read from. Assumes nothing.
-use Prim.Native.Nat.{ℕ, zero, suc, _+_, _*_, _-_, _^_, _≤_, _<_}
+use Prim.Native.Nat.{ℕ, suc, _+_, _*_, _-_, _^_, _≤_, _<_}
 use native.Mathlib.Omega.{arith}
 use native.Mathlib.Nat.{add-zero}
-use native.Mathlib.Numerals.{add-one}
 use mathlib.Core.Path.{_≡_, refl, sym, _∙_, ap, subst}
 use mathlib.Core.Bool.{Bool, true, false}
-use mathlib.Core.List.{List, [], _∷_, _++_}
+use mathlib.Core.List.{List, _∷_, _++_}
 use mathlib.Core.Option.{Option, none, some}
 use lib.ListN.{length, take, drop, getD, length-append, length-drop}
 use lib.Seq.{drop-at, drop-drop, take-at, getD-drop}
-use lib.Dec.{eqb}
-use Rattle.paper.specs.Bytes.{if_then_else_}
 use Rattle.paper.specs.Maybe.{_>>=_, require}
 use Rattle.paper.specs.Syntax.{Name, Basic, boolean, null, integer, decimal, string, reference, vector, Basics, εⱽ, _∷ⱽ_}
 use Rattle.paper.specs.Store.{Store, ∅, entry, Value, component}
 use Rattle.paper.specs.Store as S
 use Rattle.paper.specs.Layout.{name-text, Field, number, text, Row, elements, each, table-row, rows, value-rows, texts, records}
 use Rattle.paper.specs.WellFormed.{IsName}
-use Rattle.paper.specs.Decoder.{Cursor, Raw, field, name-of}
+use Rattle.paper.specs.Decoder.{Cursor, field, name-of}
 use Rattle.paper.specs.TableDecoder.{in-table}
 use Rattle.paper.proofs.Decoded.Header.{Lasts, lasts-++, records-length}
 use Rattle.paper.proofs.Decoded.Parts.{exact-name}
-use Rattle.paper.proofs.Decoded.Rows.{Took, Front, Fielded, field-sound, basic-sound, BasicRead}
+use Rattle.paper.proofs.Decoded.Rows.{Took, Front, Fielded, field-sound, basic-sound}
 use Rattle.paper.proofs.Decoded.Table.{table-lawful, EntriesRead, entries-sound}
 use Rattle.paper.proofs.Laws.Answers.{if-case}
 use Rattle.paper.proofs.Laws.Found.{found-some}
 use Rattle.paper.proofs.Laws.DecodeAt.{Bytes, word, raw-at, cursor}
-use Rattle.paper.proofs.Laws.DecodeFree.{basic-from, entries-from, entries-none, entry-value}
+use Rattle.paper.proofs.Laws.DecodeFree.{basic-from, entries-from, entry-value}
 use Rattle.memory.specs.Memory.{part-at}
 use Rattle.memory.proofs.Laws.{word-below, part-in}
 use Rattle.table.specs.Walk.{heads, value-here, entries-here}

@@ -1,16 +1,16 @@
 -- Basics that are no vectors: the paper's reader, one law for each way through the code. Assumes nothing.
 use Prim.Native.Nat.{ℕ, _+_, _-_, _≤_, _<_}
 use native.Mathlib.Omega.{arith}
-use mathlib.Core.Path.{_≡_, refl, sym, _∙_, ap, subst}
+use mathlib.Core.Path.{_≡_, refl}
 use mathlib.Core.List.{List}
 use mathlib.Core.Option.{Option, none, some}
-use lib.ListN.{length, drop}
+use lib.ListN.{drop}
 use mathlib.Core.Bool.{Bool, true, false}
 use lib.Dec.{eqb}
 use borrow.Author.Tests.{le-leb, lt-leb, eq-eqb, ne-eqb}
 use Rattle.paper.specs.Bytes.{if_then_else_}
 use Rattle.paper.specs.Maybe.{_>>=_, require}
-use Rattle.paper.specs.Syntax.{Basic, boolean, null, integer, decimal, string, reference}
+use Rattle.paper.specs.Syntax.{boolean, null, integer, decimal, string, reference}
 use Rattle.paper.specs.Decoder.{decimal-of, string-of, path-of, field, signed, leaf}
 use Rattle.paper.proofs.Laws.DecodeAt.{cursor, field-here, field-none, field-misplaced}
 use Rattle.table.specs.declared.text.Past.{Past}

@@ -7,4 +7,5 @@ pub mod Children
 pub mod Headers
 pub mod Lowers
 pub mod Moves
+pub mod Views
 pub mod Mains

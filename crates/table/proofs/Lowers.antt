@@ -4,8 +4,7 @@ use native.Mathlib.Omega.{arith}
 use native.Mathlib.Nat.{add-zero}
 use native.Mathlib.Numerals.{add-one}
 use mathlib.Core.Path.{_≡_, refl, sym, _∙_, ap}
-use mathlib.Core.List.{List, [], _∷_, _++_, append-assoc, append-nil}
-use mathlib.Core.Bool.{true, false, _&&_}
+use mathlib.Core.List.{List, _++_, append-assoc, append-nil}
 use lib.ListN.{length, take, drop, getD, length-append}
 use borrow.Author.Tests.{le-leb, lt-leb, eq-eqb, ne-eqb, lt-ltb, le-ltb}
 use Rattle.paper.specs.Bytes.{if_then_else_}
@@ -14,8 +13,8 @@ use Rattle.paper.proofs.Decoded.Header.{headed}
 use Rattle.paper.proofs.Decoded.Parts.{length-little}
 use Rattle.paper.proofs.Laws.DecodeAt.{word}
 use Rattle.memory.specs.Memory.{word-at, part-at, stored}
-use Rattle.memory.proofs.Laws.{word-in, part-in, length-own, length-stored, stored-none, then-stored}
-use Rattle.table.specs.Lower.{moved-label, moved-value, lowered, lowered-all, text-from, text-to, lowered-table, Lowerable}
+use Rattle.memory.proofs.Laws.{word-in, part-in, length-own, stored-none, then-stored}
+use Rattle.table.specs.Lower.{moved-label, moved-value, lowered, lowered-all, text-from, text-to, lowered-table}
 
 -- ---- one store after another
 

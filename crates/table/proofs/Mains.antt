@@ -2,64 +2,43 @@
 use Prim.Native.Nat.{ℕ, zero, suc, _+_, _*_, _-_, _≤_, _<_}
 use native.Mathlib.Omega.{arith}
 use native.Mathlib.Nat.{add-zero}
-use mathlib.Core.Path.{_≡_, refl, sym, _∙_, ap, subst}
-use mathlib.Core.Bool.{Bool, true, false, not}
+use mathlib.Core.Path.{_≡_, refl, sym, _∙_, ap}
+use mathlib.Core.Bool.{false, not}
 use mathlib.Core.List.{List, [], _∷_, _++_}
-use mathlib.Core.Logic.{_⊎_, ⊎-elim}
 use mathlib.Core.Option.{Option, none, some}
-use lib.ListN.{length, take, drop, getD, length-append, length-take, length-drop}
+use lib.ListN.{length, take, drop, getD, length-append, length-drop}
 use lib.Seq.{take-at}
-use lib.Dec.{eqb, leb}
-use borrow.Author.Tests.{eq-eqb, ne-eqb, le-leb, lt-leb, lt-ltb, le-ltb}
-use Rattle.paper.specs.Bytes.{bytes, if_then_else_}
-use Rattle.paper.specs.Maybe.{_>>=_, require}
+use borrow.Author.Tests.{le-leb, lt-leb}
+use Rattle.paper.specs.Bytes.{bytes}
+use Rattle.paper.specs.Maybe.{_>>=_}
 use Rattle.paper.specs.Answer.{ok, refused, demand}
 use Rattle.paper.specs.Answer as Paper
 use Rattle.paper.specs.Syntax.{Name, Basic}
 use Rattle.paper.specs.Store.{Store, ∅, entry, Value, component, lookup, find}
 use Rattle.paper.specs.Store as S
-use Rattle.paper.specs.Layout.{Row, rows, deepest, texts, records, laid-out, table}
+use Rattle.paper.specs.Layout.{Row, rows, deepest, texts, records, table}
 use Rattle.paper.specs.Meaning.{main}
 use Rattle.paper.specs.Operations.{Outcome, or-refused, told, written, main-op, takes-main}
-use Rattle.paper.specs.Decoder.{Cursor, header, ended}
-use Rattle.paper.specs.TableDecoder.{in-table, absent, distinct, table-of}
-use Rattle.paper.proofs.Decoded.Header.{headed, records-length, laid-out-headed, Ended, ended-sound}
+use Rattle.paper.specs.Decoder.{Cursor, header}
+use Rattle.paper.specs.TableDecoder.{absent, table-of}
+use Rattle.paper.proofs.Decoded.Header.{headed, records-length, laid-out-headed}
 use Rattle.paper.proofs.Decoded.Rows.{Front}
-use Rattle.paper.proofs.Laws.Found.{found-some}
-use Rattle.paper.proofs.Laws.DecodeAt.{Bytes, word, raw-at, cursor}
-use Rattle.paper.proofs.Laws.DecodeFree.{basic-from, entries-from, entries-none, entry-value, table-of-is}
+use Rattle.paper.proofs.Laws.DecodeAt.{Bytes, word, cursor}
+use Rattle.paper.proofs.Laws.DecodeFree.{entries-none, table-of-is}
 use Rattle.memory.specs.Memory.{stored}
-use Rattle.memory.proofs.Laws.{fit, stored-front}
+use Rattle.memory.proofs.Laws.{stored-front}
 use Rattle.table.specs.declared.operation.Answer.{Answer}
 use Rattle.table.specs.declared.operation.Answer.the-variants.{Done, Refused}
-use Rattle.table.specs.Walk.{value-here, entries-here}
+use Rattle.table.specs.Walk.{entries-here}
 use Rattle.table.specs.declared.child.Found.the-variants.{At, Nothing}
 use Rattle.table.specs.Child.{Holds, ChildAt, FoundIs}
-use Rattle.table.specs.Whole.{is-table-of, store-in, records-in, text-in, Sized}
+use Rattle.table.specs.Whole.{is-table-of, store-in}
 use Rattle.table.specs.Lower.{lowered-all, text-from, text-to, lowered-table, Lowerable}
-use Rattle.table.specs.Main.{answered, outcome, main-of, main-outcome, Tabled}
-use Rattle.table.proofs.Inside.{bind-some, some-is, rows-lasts, entries-read, Entry, entry-of}
-use Rattle.table.proofs.Headers.{table-whole}
+use Rattle.table.specs.Main.{outcome, main-of, main-outcome, Tabled}
+use Rattle.table.proofs.Inside.{some-is, rows-lasts, entries-read, Entry, entry-of}
+use Rattle.table.proofs.Views.{basic-of, component-of, Root, root-of}
 use Rattle.table.proofs.Lowers.{lowered-is, to-next, to-end, table-size}
-use Rattle.table.proofs.Moves.{deepen, deepen-length, deepen-texts, deepen-deepest, rows-deep, AllMovable, rows-move, rows-moved}
-
--- ---- the value at a record
-
-module _ (recs text : List ℕ) (d j q : ℕ) (v : Value) (at : Cursor) (w : value-here recs text d j q ≡ some (v, at)) where
-  pub basic-of : (word 2 recs j ≡ 0 → ⊥) → (b : Basic) × (v ≡ S.basic b)
-  unfolding entry-value raw-at if_then_else_
-  basic-of h =
-      let z = ne-eqb (word 2 recs j) 0 h in
-      let x = bind-some (basic-from in-table d (word 2 recs j) (word 2 recs (j + 6)) (word 8 recs (j + 8)) (cursor recs text (j + 16) q)) _ _ (rw z at w) in
-      (x .0 .0, sym (ap (λ y. y .0) (some-is _ _ (x .2))))
-
-  pub component-of : word 2 recs j ≡ 0 → (c : Store) × (v ≡ component c) × (entries-here recs text (suc d) (word 2 recs (j + 6) - 1) (j + 16) q ≡ some (c, at))
-  unfolding entry-value raw-at if_then_else_
-  component-of h =
-      let z = eq-eqb (word 2 recs j) 0 h in
-      let y = bind-some (require _) _ _ (rw z at w) in
-      let x = bind-some (entries-here recs text (suc d) (word 2 recs (j + 6) - 1) (j + 16) q) _ _ (y .2) in
-      (x .0 .0, sym (ap (λ u. u .0) (some-is _ _ (x .2))), x .1 ∙ ap (λ c. some (x .0 .0, c)) (ap (λ u. u .1) (some-is _ _ (x .2))))
+use Rattle.table.proofs.Moves.{deepen, deepen-length, deepen-texts, deepen-deepest, rows-deep, rows-move, rows-moved}
 
 -- ---- a component's table
 
@@ -169,22 +148,7 @@ module _ (recs text : List ℕ) (j left p : ℕ) (s : Store) (after : Cursor) (b
             ∙ table-headed c;
       }
 
--- ---- a whole table's records
-
-record Root (recs text : List ℕ) (n : ℕ) (s : Store) : Type 0 where
-  after : Cursor
-  holds : Holds recs text 0 n 1 0 s after
-  no-recs : after .recs ≡ []
-  no-text : after .text ≡ []
-
-root-of : (recs text : List ℕ) (n : ℕ) (s : Store) → store-in recs text n ≡ some s → Root recs text n s
-unfolding store-in
-root-of recs text n s e =
-    let x = bind-some (entries-from 1 n (cursor recs text 0 0)) _ _ e in
-    let y = bind-some (ended (x .0 .1)) _ _ (x .2) in
-    let z = bind-some (require (distinct (x .0 .0))) _ _ (y .2) in
-    let D = found-some (ended-sound (x .0 .1)) (y .1) in
-    record { after = x .0 .1; holds = record { is = x .1 ∙ ap (λ t. some (t, x .0 .1)) (some-is _ _ (z .2)) }; no-recs = D .recs; no-text = D .text }
+-- ---- the answers
 
 abbrev sfConfig : List ℕ
 sfConfig = bytes "sfConfig"
@@ -292,20 +256,6 @@ not-table b e = go (table-of b) refl e
 pub no-header : (b : List ℕ) → header 2 16 1024 16384 b ≡ none → table-of b ≡ none
 unfolding _>>=_
 no-header b e = rw (table-of-is b, e)
-
-pub tabled-of : (b : List ℕ) (n : ℕ) → Sized b n → is-table-of b ≡ true → Tabled (records-in b n) (text-in b n) n
-unfolding is-table-of absent
-tabled-of b n S e = go (table-of b) refl e
-  where
-    go : (t : Option Store) → table-of b ≡ t → not (absent t) ≡ true → Tabled (records-in b n) (text-in b n) n
-    go none q f = let z : _≡_ {A = ℕ} 0 1 = cc in absurd (omega arith)
-    go (some s) q f =
-        record {
-          store = s;
-          is = sym (table-whole b n S) ∙ q;
-          many = simp (length-take, length-drop) (omega (arith, S .few));
-          short = S .short;
-        }
 
 -- a lowered table has at most 32,792 bytes
 pub lowered-room : (recs text : List ℕ) (j : ℕ) (c : Store) (o : List ℕ) → Inner recs text j c → 32792 ≤ length o → length (table c) ≤ length o

@@ -1,12 +1,10 @@
 -- The rules by which what each function over records answers follows from what its calls answered, one for each way through its code.
 -- Assumes nothing.
-use Prim.Native.Nat.{ℕ, zero, suc, _+_, _-_, _≤_, _<_}
-use native.Mathlib.Omega.{arith}
+use Prim.Native.Nat.{ℕ, _+_, _-_, _≤_}
 use native.Mathlib.Numerals.{add-one}
-use mathlib.Core.Path.{_≡_, refl, sym, _∙_, ap}
+use mathlib.Core.Path.{_≡_, _∙_}
 use mathlib.Core.List.{List}
 use mathlib.Core.Option.{Option, none, some}
-use lib.ListN.{length}
 use borrow.Author.Tests.{le-leb, eq-eqb, ne-eqb}
 use Rattle.paper.specs.Bytes.{if_then_else_}
 use Rattle.paper.specs.Maybe.{_>>=_, require}
@@ -17,7 +15,6 @@ use Rattle.paper.specs.Decoder.{Cursor}
 use Rattle.paper.specs.TableDecoder.{in-table}
 use Rattle.paper.proofs.Laws.DecodeAt.{Bytes, word, raw-at, cursor}
 use Rattle.paper.proofs.Laws.DecodeFree.{basic-body, basic-is, elements-none, entries-none, entry-value}
-use Rattle.table.specs.declared.text.Past.{Past}
 use Rattle.table.specs.declared.text.Past.the-variants.{At, Bad}
 use Rattle.table.specs.declared.walk.Walk.{Walk}
 use Rattle.table.specs.declared.walk.Walk.the-variants.{Walked, Wrong}

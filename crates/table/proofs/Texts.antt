@@ -1,26 +1,23 @@
 -- Where the texts of a table end: the paper's readers, one law for each way through the code. Assumes nothing.
-use Prim.Native.Nat.{ℕ, zero, suc, _+_, _*_, _-_, _≤_, _<_}
+use Prim.Native.Nat.{ℕ, zero, suc, _+_, _-_, _≤_, _<_}
 use native.Mathlib.Omega.{arith}
 use native.Mathlib.Nat.{add-sub-cancel-left}
 use native.Mathlib.Numerals.{add-one}
-use mathlib.Core.Path.{_≡_, refl, sym, _∙_, ap, subst}
+use mathlib.Core.Path.{_≡_, refl, sym, _∙_}
 use mathlib.Core.Bool.{Bool, true, false, not, _&&_}
 use mathlib.Core.List.{List, [], _∷_}
 use mathlib.Core.Option.{Option, none, some}
 use lib.ListN.{length, take, drop, getD, length-drop, drop-of-length-le}
 use lib.Seq.{length-take-le}
-use lib.Dec.{leb, eqb}
-use borrow.Author.Tests.{leb-true, le-leb, lt-leb, eq-eqb, ne-eqb}
-use Rattle.paper.specs.Bytes.{if_then_else_}
+use borrow.Author.Tests.{le-leb, lt-leb}
 use Rattle.paper.specs.Maybe.{_>>=_, require}
-use Rattle.paper.specs.Syntax.{Name, Path, Basic, boolean, null, integer, decimal, string, reference}
 use Rattle.paper.specs.Tokens.{reserved, member}
 use Rattle.paper.specs.Scanner.{scan}
-use Rattle.paper.specs.Decoder.{one-name, one-decimal, name-of, names-of, path-of, long-of, decimal-of, string-of, field, leaf}
-use Rattle.paper.proofs.Laws.DecodeAt.{Bytes, word, part, cursor, name-here, name-end, long-here, long-end, path-here, field-here, field-none, field-misplaced}
+use Rattle.paper.specs.Decoder.{one-name, name-of, names-of, path-of, long-of, decimal-of, string-of}
+use Rattle.paper.proofs.Laws.DecodeAt.{Bytes, word, part, name-here, long-here, path-here}
 use Rattle.table.specs.declared.text.Past.{Past}
 use Rattle.table.specs.declared.text.Past.the-variants.{At, Bad}
-use Rattle.table.specs.Text.{legal-name, legal-decimal, Ends, PastIs, LongEnds, LeafIs}
+use Rattle.table.specs.Text.{legal-name, legal-decimal, Ends, PastIs, LongEnds}
 
 no-more : {B : Type 0} (c : Bool) → _≡_ {A = Option B} (require c >>= λ _. none) none
 unfolding _>>=_ require

@@ -7,7 +7,7 @@ use mathlib.Core.Option.{Option, none, some}
 use lib.ListN.{length, take, drop}
 use Rattle.paper.specs.Maybe.{_>>=_, require}
 use Rattle.paper.specs.Store.{Store}
-use Rattle.paper.specs.Decoder.{Cursor, header, ended}
+use Rattle.paper.specs.Decoder.{header, ended}
 use Rattle.paper.specs.TableDecoder.{absent, distinct, table-of}
 use Rattle.paper.proofs.Laws.DecodeFree.{entries-from}
 use Rattle.paper.proofs.Laws.DecodeAt.{cursor}

@@ -3,6 +3,7 @@ mod child;
 mod lower;
 mod once;
 mod operation;
+mod row;
 mod text;
 mod walk;
 mod whole;

@@ -1,26 +1,18 @@
 // Records of a table: where those of an attribute's value, of elements, of a component's attributes end, if they are as they should be.
+use crate::row::value_of;
 use crate::text::Past;
 use crate::text::leaf;
 use crate::text::name_end;
 use crate::text::number;
 use memory::fits;
-use memory::get64;
 ghost use mathlib.Core.Path.{_≡_};
 ghost use Prim.Native.Nat.{_+_, _≤_};
 ghost use lib.ListN.{length};
-ghost use Rattle.paper.proofs.Laws.DecodeAt.{word};
 ghost use Rattle.table.specs.Walk.{heads, Headed, WalkIs, LabelIs, basic-here, elements-here, value-here, entries-here};
 
 pub enum Walk {
     Walked { record: usize, text: usize },
     Wrong,
-}
-
-pub(crate) fn value_of(recs: &[u8], i: usize) -> u64
-    requires { ⌜ i + 16 ≤ length (now recs) ⌝ }
-    ensures { λ r. ⌜ r ≡ word 8 (now (recs .entry)) (i + 8) ⌝ }
-{
-    get64(recs, i + 8)
 }
 
 fn head(recs: &[u8], i: usize, depth: usize, left: usize) -> bool

@@ -1,9 +1,6 @@
 -- `table::child::find_child` meets its contract: what is found from here on is what is found from the start. Assumes nothing.
-use Prim.Native.Nat.{_+_, _*_, _≤_}
 use native.Mathlib.Omega.{arith}
-use mathlib.Core.Path.{_≡_, sym, _∙_}
-use lib.ListN.{length}
-use Rattle.paper.specs.Bytes.{same}
+use mathlib.Core.Path.{sym, _∙_}
 use Rattle.table.specs.declared.child.Found.{Found}
 use Rattle.table.specs.declared.child.Found.the-variants.{At, Nothing}
 use Rattle.table.specs.Child.{FoundIs}
@@ -11,11 +8,6 @@ use Rattle.table.proofs.Children.{find-end, find-stuck, find-here, find
 use borrow.Author.Needs.{needs}
 use Rattle.table.proofs.child.find_child.Statement.{statement}
 use Rattle.table.proofs.child.find_child.Tie as tie
-use Rattle.table.proofs.child.find_child.Reads as reads
-use Rattle.table.proofs.child.find_child.Lts as lts
-use Rattle.table.proofs.child.name_at.Reads as name-at-reads
-use Rattle.table.proofs.child.same_bytes.Reads as same-bytes-reads
-use Rattle.table.proofs.child.span_at.Reads as span-at-reads
 
 abbrev Inv-loop : tie.InvT-loop
 Inv-loop recs text from n name i₀ left₀ i left = (r : Found) → FoundIs recs text i left name r → FoundIs recs text from n name r

@@ -1,14 +1,10 @@
 -- `table::child::label` meets its contract. Assumes nothing.
-use Prim.Native.Nat.{_+_}
 use native.Mathlib.Omega.{arith}
 use mathlib.Core.Path.{_∙_}
 use Rattle.memory.proofs.Laws.{word-in}
 use borrow.Author.Needs.{needs}
 use Rattle.table.proofs.child.label.Statement.{statement}
 use Rattle.table.proofs.child.label.Tie as tie
-use Rattle.table.proofs.child.label.Reads as reads
-use Rattle.table.proofs.child.label.Lts as lts
-use Rattle.memory.proofs.get16.Reads as get16-reads
 
 add-get16 : tie.Need-add-get16
 add-get16 c = search needs

@@ -3,11 +3,6 @@ use Rattle.table.specs.Child.{named-at}
 use borrow.Author.Needs.{needs}
 use Rattle.table.proofs.child.name_at.Statement.{statement}
 use Rattle.table.proofs.child.name_at.Tie as tie
-use Rattle.table.proofs.child.name_at.Reads as reads
-use Rattle.table.proofs.child.name_at.Lts as lts
-use Rattle.memory.proofs.part.Reads as part-reads
-use Rattle.table.proofs.child.label.Reads as label-reads
-use Rattle.table.proofs.text.byte.Reads as byte-reads
 
 label-requires : tie.Need-label-requires
 label-requires c κs = search needs

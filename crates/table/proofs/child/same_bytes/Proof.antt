@@ -1,5 +1,5 @@
 -- `table::child::same_bytes` meets its contract: the runs are the same if what is left of them is. Assumes nothing.
-use Prim.Native.Nat.{_+_, _-_, _≤_}
+use Prim.Native.Nat.{_-_, _≤_}
 use native.Mathlib.Omega.{arith}
 use mathlib.Core.Path.{_≡_, sym, _∙_, refl}
 use lib.ListN.{length, drop}
@@ -8,8 +8,6 @@ use Rattle.table.proofs.Children.{same-long, same-end, same-goes, same-
 use borrow.Author.Needs.{needs}
 use Rattle.table.proofs.child.same_bytes.Statement.{statement}
 use Rattle.table.proofs.child.same_bytes.Tie as tie
-use Rattle.table.proofs.child.same_bytes.Reads as reads
-use Rattle.table.proofs.child.same_bytes.Lts as lts
 
 abbrev Inv-loop : tie.InvT-loop
 Inv-loop a b i₀ i = (i ≤ length a) × (length a ≡ length b) × (same a b ≡ same (drop i a) (drop i b))

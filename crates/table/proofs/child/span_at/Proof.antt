@@ -1,15 +1,11 @@
 -- `table::child::span_at` meets its contract. Assumes nothing.
-use Prim.Native.Nat.{_+_, _*_, _/_}
+use Prim.Native.Nat.{_*_}
 use native.Mathlib.Omega.{arith}
 use lib.ListN.{length}
 use Rattle.memory.proofs.Laws.{fits-yes, fits-no}
 use borrow.Author.Needs.{needs}
 use Rattle.table.proofs.child.span_at.Statement.{statement}
 use Rattle.table.proofs.child.span_at.Tie as tie
-use Rattle.table.proofs.child.span_at.Reads as reads
-use Rattle.table.proofs.child.span_at.Lts as lts
-use Rattle.memory.proofs.fits.Reads as fits-reads
-use Rattle.table.proofs.text.number.Reads as number-reads
 
 fits-requires : tie.Need-fits-requires
 fits-requires c κs = search needs

@@ -1,5 +1,4 @@
 -- `table::lower::lower_row` meets its contract. Assumes nothing.
-use Prim.Native.Nat.{_+_}
 use native.Mathlib.Omega.{arith}
 use mathlib.Core.Path.{_∙_, ap}
 use Rattle.memory.specs.Memory.{stored}
@@ -7,15 +6,6 @@ use Rattle.table.proofs.Lowers.{row-stored, row-lowered}
 use borrow.Author.Needs.{needs}
 use Rattle.table.proofs.lower.lower_row.Statement.{statement}
 use Rattle.table.proofs.lower.lower_row.Tie as tie
-use Rattle.table.proofs.lower.lower_row.Reads as reads
-use Rattle.table.proofs.lower.lower_row.Lts as lts
-use Rattle.memory.proofs.get16.Reads as get16-reads
-use Rattle.memory.proofs.get64.Reads as get64-reads
-use Rattle.memory.proofs.put16.Reads as put16-reads
-use Rattle.memory.proofs.put64.Reads as put64-reads
-use Rattle.table.proofs.lower.less16.Reads as less16-reads
-use Rattle.table.proofs.lower.moved_label.Reads as moved-label-reads
-use Rattle.table.proofs.lower.moved_value.Reads as moved-value-reads
 
 add-last : tie.Need-add-last
 add-last c = omega (arith, c .before .before .pre)

@@ -1,5 +1,5 @@
 -- `table::lower::lower_rows` meets its contract: the records passed are written. Assumes nothing.
-use Prim.Native.Nat.{_+_, _*_, _-_, _≤_}
+use Prim.Native.Nat.{_-_, _≤_}
 use native.Mathlib.Omega.{arith}
 use mathlib.Core.Path.{_≡_, refl, _∙_, subst}
 use lib.ListN.{length}
@@ -8,9 +8,6 @@ use Rattle.table.specs.Lower.{lowered-all}
 use Rattle.table.proofs.Lowers.{all-none, all-turn}
 use Rattle.table.proofs.lower.lower_rows.Statement.{statement}
 use Rattle.table.proofs.lower.lower_rows.Tie as tie
-use Rattle.table.proofs.lower.lower_rows.Reads as reads
-use Rattle.table.proofs.lower.lower_rows.Lts as lts
-use Rattle.table.proofs.lower.lower_row.Reads as lower-row-reads
 
 abbrev Inv-loop : tie.InvT-loop
 Inv-loop recs first n from out₀ k₀ out k = (k ≤ n) × (length out ≡ length out₀) × (out ≡ stored out₀ 24 (lowered-all recs first from k))

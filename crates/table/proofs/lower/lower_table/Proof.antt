@@ -1,8 +1,8 @@
 -- `table::lower::lower_table` meets its contract. Assumes nothing.
 -- what the places are, as the code has them
-use Prim.Native.Nat.{ℕ, _+_, _-_, _*_, _≤_, _<_}
+use Prim.Native.Nat.{ℕ, _+_, _-_, _*_, _≤_}
 use native.Mathlib.Omega.{arith}
-use mathlib.Core.Path.{_≡_, refl, sym, _∙_, ap, subst}
+use mathlib.Core.Path.{_≡_, ap}
 use lib.ListN.{length}
 use mathlib.Core.List.{List}
 use Rattle.paper.proofs.Laws.DecodeAt.{word}
@@ -11,15 +11,6 @@ use Rattle.table.proofs.Lowers.{table-stored, table-size}
 use borrow.Author.Needs.{needs}
 use Rattle.table.proofs.lower.lower_table.Statement.{statement}
 use Rattle.table.proofs.lower.lower_table.Tie as tie
-use Rattle.table.proofs.lower.lower_table.Reads as reads
-use Rattle.table.proofs.lower.lower_table.Lts as lts
-use Rattle.memory.proofs.copy.Reads as copy-reads
-use Rattle.memory.proofs.part.Reads as part-reads
-use Rattle.table.proofs.lower.lower_rows.Reads as lower-rows-reads
-use Rattle.table.proofs.lower.put_header.Reads as put-header-reads
-use Rattle.table.proofs.lower.text_end.Reads as text-end-reads
-use Rattle.table.proofs.lower.text_start.Reads as text-start-reads
-use Rattle.table.proofs.text.number.Reads as number-reads
 
 -- what the places are, as the code has them
 record Places (recs text : List ℕ) (i n from to : ℕ) : Type 0 where

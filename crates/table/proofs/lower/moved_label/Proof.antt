@@ -3,9 +3,6 @@ use Rattle.table.proofs.Lowers.{label-none, label-some}
 use borrow.Author.Needs.{needs}
 use Rattle.table.proofs.lower.moved_label.Statement.{statement}
 use Rattle.table.proofs.lower.moved_label.Tie as tie
-use Rattle.table.proofs.lower.moved_label.Reads as reads
-use Rattle.table.proofs.lower.moved_label.Lts as lts
-use Rattle.table.proofs.lower.less16.Reads as less16-reads
 
 returns : tie.Need-returns
 returns c = label-none (c .before .args .from) (c .before .args .place) (c .if1 .taken)

@@ -3,9 +3,6 @@ use Rattle.table.proofs.Lowers.{value-low, value-high, value-text}
 use borrow.Author.Needs.{needs}
 use Rattle.table.proofs.lower.moved_value.Statement.{statement}
 use Rattle.table.proofs.lower.moved_value.Tie as tie
-use Rattle.table.proofs.lower.moved_value.Reads as reads
-use Rattle.table.proofs.lower.moved_value.Lts as lts
-use Rattle.table.proofs.lower.less.Reads as less-reads
 
 returns : tie.Need-returns
 returns c = value-low (c .before .args .from) (c .before .args .kind) (c .before .args .value) (c .if1 .taken)

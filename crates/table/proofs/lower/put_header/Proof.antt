@@ -3,9 +3,6 @@ use Rattle.table.proofs.Lowers.{header-stored}
 use borrow.Author.Needs.{needs}
 use Rattle.table.proofs.lower.put_header.Statement.{statement}
 use Rattle.table.proofs.lower.put_header.Tie as tie
-use Rattle.table.proofs.lower.put_header.Reads as reads
-use Rattle.table.proofs.lower.put_header.Lts as lts
-use Rattle.memory.proofs.put32.Reads as put32-reads
 
 mul-place : tie.Need-mul-place
 mul-place c = search needs

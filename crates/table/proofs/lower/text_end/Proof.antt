@@ -1,13 +1,8 @@
 -- `table::lower::text_end` meets its contract. Assumes nothing.
-use Prim.Native.Nat.{_+_}
 use native.Mathlib.Omega.{arith}
 use Rattle.table.proofs.Lowers.{to-next, to-end}
-use borrow.Author.Needs.{needs}
 use Rattle.table.proofs.lower.text_end.Statement.{statement}
 use Rattle.table.proofs.lower.text_end.Tie as tie
-use Rattle.table.proofs.lower.text_end.Reads as reads
-use Rattle.table.proofs.lower.text_end.Lts as lts
-use Rattle.table.proofs.text.number.Reads as number-reads
 
 add-number : tie.Need-add-number
 add-number c = omega (arith, c .before .before .before .pre (c .if1 .taken))

@@ -4,10 +4,6 @@ use Rattle.table.proofs.Lowers.{from-is}
 use borrow.Author.Needs.{needs}
 use Rattle.table.proofs.lower.text_start.Statement.{statement}
 use Rattle.table.proofs.lower.text_start.Tie as tie
-use Rattle.table.proofs.lower.text_start.Reads as reads
-use Rattle.table.proofs.lower.text_start.Lts as lts
-use Rattle.table.proofs.child.label.Reads as label-reads
-use Rattle.table.proofs.text.byte.Reads as byte-reads
 
 label-requires : tie.Need-label-requires
 label-requires c κs = search needs

@@ -3,10 +3,9 @@
 use Prim.Native.Nat.{_+_, _-_, _*_, _≤_}
 use native.Mathlib.Omega.{arith}
 use native.Mathlib.Nat.{le-refl}
-use mathlib.Core.Path.{_≡_, sym, _∙_}
 use mathlib.Core.Bool.{Bool, true, false}
 use borrow.Author.Tests.{not-true, not-false}
-use Rattle.table.specs.Child.{AloneIs, DistinctIs, DistinctInIs}
+use Rattle.table.specs.Child.{DistinctIs}
 use Rattle.table.proofs.Children.{distinct-end, distinct-stuck, distinct-twice, distinct-below as distinct-inner, distinct-more, distinct-basic, distinct-component}
 use borrow.Author.Needs.{needs}
 use Prim.Native.Nat.{ℕ, _<_}

@@ -1,15 +1,10 @@
 -- `table::once::alone` meets its contract. Assumes nothing.
-use Prim.Native.Nat.{_+_, _*_, _-_}
+use Prim.Native.Nat.{_-_}
 use native.Mathlib.Omega.{arith}
-use Rattle.table.specs.Child.{FoundIs}
 use Rattle.table.proofs.Children.{alone-no, alone-yes}
 use borrow.Author.Needs.{needs}
 use Rattle.table.proofs.once.alone.Statement.{statement}
 use Rattle.table.proofs.once.alone.Tie as tie
-use Rattle.table.proofs.once.alone.Reads as reads
-use Rattle.table.proofs.once.alone.Lts as lts
-use Rattle.table.proofs.child.find_child.Reads as find-child-reads
-use Rattle.table.proofs.child.name_at.Reads as name-at-reads
 
 mul-find-child : tie.Need-mul-find-child
 mul-find-child c = omega (arith, c .before .before .pre)

@@ -1,22 +1,13 @@
 -- `table::operation::main` meets its contract. Assumes nothing.
-use Prim.Native.Nat.{_≤_}
-use native.Mathlib.Omega.{arith}
-use mathlib.Core.Path.{_≡_, sym, _∙_, ap}
-use lib.ListN.{length}
+use mathlib.Core.Path.{sym, _∙_, ap}
 use borrow.Author.Tests.{not-true, not-false}
-use Rattle.table.specs.Main.{main-of, main-outcome, Tabled}
+use Rattle.table.specs.Main.{main-of, main-outcome}
 use Rattle.table.proofs.Headers.{table-whole}
-use Rattle.table.proofs.Mains.{main-short, main-long, main-no-table, not-table, no-header, tabled-of}
+use Rattle.table.proofs.Views.{tabled-of}
+use Rattle.table.proofs.Mains.{main-short, main-long, main-no-table, not-table, no-header}
 use borrow.Author.Needs.{needs}
 use Rattle.table.proofs.operation.main.Statement.{statement}
 use Rattle.table.proofs.operation.main.Tie as tie
-use Rattle.table.proofs.operation.main.Reads as reads
-use Rattle.table.proofs.operation.main.Lts as lts
-use Rattle.table.proofs.operation.main_in.Reads as main-in-reads
-use Rattle.table.proofs.whole.count.Reads as count-reads
-use Rattle.table.proofs.whole.is_table.Reads as is-table-reads
-use Rattle.table.proofs.whole.records_of.Reads as records-of-reads
-use Rattle.table.proofs.whole.text_of.Reads as text-of-reads
 
 returns : tie.Need-returns
 returns c = main-short (c .before .before .before .args .table .now) (c .before .before .before .args .out .now) (c .if1 .taken)

@@ -1,20 +1,12 @@
 -- `table::operation::main_in` meets its contract. Assumes nothing.
-use Prim.Native.Nat.{_+_}
 use native.Mathlib.Omega.{arith}
-use mathlib.Core.Path.{_≡_, _∙_, ap, sym}
+use mathlib.Core.Path.{_∙_, ap}
 use lib.ListN.{length}
-use Rattle.paper.proofs.Laws.DecodeAt.{Bytes}
 use Rattle.memory.specs.Memory.{stored}
-use Rattle.table.specs.Lower.{lowered-table}
 use Rattle.table.proofs.Mains.{child-within, main-basic, main-inner, main-nothing, outcome-refused, outcome-done, lowered-room}
 use borrow.Author.Needs.{needs}
 use Rattle.table.proofs.operation.main_in.Statement.{statement}
 use Rattle.table.proofs.operation.main_in.Tie as tie
-use Rattle.table.proofs.operation.main_in.Reads as reads
-use Rattle.table.proofs.operation.main_in.Lts as lts
-use Rattle.table.proofs.child.find_child.Reads as find-child-reads
-use Rattle.table.proofs.lower.lower_table.Reads as lower-table-reads
-use Rattle.table.proofs.text.number.Reads as number-reads
 
 slice-aggregate-find-child : tie.Need-slice-aggregate-find-child
 slice-aggregate-find-child c = search needs

@@ -5,9 +5,6 @@ use lib.ListN.{List·getD-eq-default}
 use borrow.Author.Needs.{needs}
 use Rattle.table.proofs.text.byte.Statement.{statement}
 use Rattle.table.proofs.text.byte.Tie as tie
-use Rattle.table.proofs.text.byte.Reads as reads
-use Rattle.table.proofs.text.byte.Lts as lts
-use Rattle.table.proofs.text.wide.Reads as wide-reads
 
 returns : tie.Need-returns
 returns c = sym (List·getD-eq-default (c .before .before .args .s .now) 0 (omega arith))

@@ -6,10 +6,6 @@ use Rattle.table.proofs.Texts.{decimal-good, decimal-illegal, decimal-n
 use borrow.Author.Needs.{needs}
 use Rattle.table.proofs.text.decimal_end.Statement.{statement}
 use Rattle.table.proofs.text.decimal_end.Tie as tie
-use Rattle.table.proofs.text.decimal_end.Reads as reads
-use Rattle.table.proofs.text.decimal_end.Lts as lts
-use Rattle.table.proofs.text.long_end.Reads as long-end-reads
-use Rattle.tokens.proofs.is_decimal.Reads as is-decimal-reads
 
 long-end-requires : tie.Need-long-end-requires
 long-end-requires c κs = search needs

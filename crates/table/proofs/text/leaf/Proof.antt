@@ -1,16 +1,9 @@
 -- `table::text::leaf` meets its contract. Assumes nothing.
-use mathlib.Core.Path.{_≡_}
 use native.Mathlib.Omega.{arith}
-use borrow.Author.Tests.{not-false}
-use Rattle.table.specs.Text.{LeafIs}
 use Rattle.table.proofs.Leaves.{misplaced-leaf}
 use borrow.Author.Needs.{needs}
 use Rattle.table.proofs.text.leaf.Statement.{statement}
 use Rattle.table.proofs.text.leaf.Tie as tie
-use Rattle.table.proofs.text.leaf.Reads as reads
-use Rattle.table.proofs.text.leaf.Lts as lts
-use Rattle.table.proofs.text.plain.Reads as plain-reads
-use Rattle.table.proofs.text.texted.Reads as texted-reads
 
 plain-requires : tie.Need-plain-requires
 plain-requires c κs = search needs

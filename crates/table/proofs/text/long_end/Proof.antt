@@ -1,5 +1,5 @@
 -- `table::text::long_end` meets its contract. Assumes nothing.
-use Prim.Native.Nat.{_+_, _<_}
+use Prim.Native.Nat.{_+_}
 use lib.ListN.{length}
 use native.Mathlib.Omega.{arith}
 use Rattle.paper.proofs.Laws.DecodeAt.{long-end}
@@ -8,10 +8,6 @@ use Rattle.table.proofs.Texts.{long-over, long-good}
 use borrow.Author.Needs.{needs}
 use Rattle.table.proofs.text.long_end.Statement.{statement}
 use Rattle.table.proofs.text.long_end.Tie as tie
-use Rattle.table.proofs.text.long_end.Reads as reads
-use Rattle.table.proofs.text.long_end.Lts as lts
-use Rattle.memory.proofs.fits.Reads as fits-reads
-use Rattle.table.proofs.text.number.Reads as number-reads
 
 fits-requires : tie.Need-fits-requires
 fits-requires c κs = search needs

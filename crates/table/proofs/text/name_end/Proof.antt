@@ -1,8 +1,7 @@
 -- `table::text::name_end` meets its contract. Assumes nothing.
-use Prim.Native.Nat.{_+_, _≤_}
+use Prim.Native.Nat.{_+_}
 use native.Mathlib.Omega.{arith}
 use mathlib.Core.Path.{_∙_, sym}
-use lib.ListN.{length}
 use borrow.Author.Tests.{not-true, not-false}
 use Rattle.paper.proofs.Laws.DecodeAt.{name-end}
 use Rattle.memory.proofs.Laws.{fits-yes, fits-no}
@@ -11,11 +10,6 @@ use Rattle.table.proofs.Texts.{name-long, name-good, name-illegal}
 use borrow.Author.Needs.{needs}
 use Rattle.table.proofs.text.name_end.Statement.{statement}
 use Rattle.table.proofs.text.name_end.Tie as tie
-use Rattle.table.proofs.text.name_end.Reads as reads
-use Rattle.table.proofs.text.name_end.Lts as lts
-use Rattle.memory.proofs.fits.Reads as fits-reads
-use Rattle.table.proofs.text.wide.Reads as wide-reads
-use Rattle.tokens.proofs.is_name.Reads as is-name-reads
 
 returns : tie.Need-returns
 returns c = name-end (c .before .before .args .text .now) (c .before .before .args .p) (omega arith)

@@ -11,9 +11,6 @@ use Rattle.table.proofs.Texts.{names-stop, names-no, names-go}
 use borrow.Author.Needs.{needs}
 use Rattle.table.proofs.text.names_end.Statement.{statement}
 use Rattle.table.proofs.text.names_end.Tie as tie
-use Rattle.table.proofs.text.names_end.Reads as reads
-use Rattle.table.proofs.text.names_end.Lts as lts
-use Rattle.table.proofs.text.name_end.Reads as name-end-reads
 
 abbrev Inv-loop : tie.InvT-loop
 Inv-loop text p n q₀ left₀ q left = (q ≤ length text) × ((r : Past) → PastIs (names-of left (drop q text)) text q r → PastIs (names-of n (drop p text)) text p r)

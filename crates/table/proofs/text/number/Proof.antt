@@ -4,9 +4,6 @@ use Rattle.memory.proofs.Laws.{word-in}
 use borrow.Author.Needs.{needs}
 use Rattle.table.proofs.text.number.Statement.{statement}
 use Rattle.table.proofs.text.number.Tie as tie
-use Rattle.table.proofs.text.number.Reads as reads
-use Rattle.table.proofs.text.number.Lts as lts
-use Rattle.memory.proofs.get16.Reads as get16-reads
 
 get16-requires : tie.Need-get16-requires
 get16-requires c κs = search needs

@@ -4,10 +4,6 @@ use Rattle.table.proofs.Texts.{path-none, path-small, path-big, path-is
 use borrow.Author.Needs.{needs}
 use Rattle.table.proofs.text.path_end.Statement.{statement}
 use Rattle.table.proofs.text.path_end.Tie as tie
-use Rattle.table.proofs.text.path_end.Reads as reads
-use Rattle.table.proofs.text.path_end.Lts as lts
-use Rattle.table.proofs.text.names_end.Reads as names-end-reads
-use Rattle.table.proofs.text.wide.Reads as wide-reads
 
 returns : tie.Need-returns
 returns c = path-none (c .before .before .args .text .now) (c .before .before .args .p) (omega arith)

@@ -1,11 +1,8 @@
 -- `table::text::plain` meets its contract. Assumes nothing.
 use native.Mathlib.Omega.{arith}
-use mathlib.Core.Path.{_≡_}
 use Rattle.table.proofs.Leaves.{integer-leaf, zero-leaf, boolean-leaf, boolean-no, null-leaf, null-no}
 use Rattle.table.proofs.text.plain.Statement.{statement}
 use Rattle.table.proofs.text.plain.Tie as tie
-use Rattle.table.proofs.text.plain.Reads as reads
-use Rattle.table.proofs.text.plain.Lts as lts
 
 returns : tie.Need-returns
 returns c = integer-leaf (c .before .args .text .now) (c .before .args .p) _ (c .before .args .kind) (c .if1 .taken)

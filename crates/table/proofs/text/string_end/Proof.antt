@@ -4,9 +4,6 @@ use Rattle.table.proofs.Texts.{string-good, string-long, string-no}
 use borrow.Author.Needs.{needs}
 use Rattle.table.proofs.text.string_end.Statement.{statement}
 use Rattle.table.proofs.text.string_end.Tie as tie
-use Rattle.table.proofs.text.string_end.Reads as reads
-use Rattle.table.proofs.text.string_end.Lts as lts
-use Rattle.table.proofs.text.long_end.Reads as long-end-reads
 
 long-end-requires : tie.Need-long-end-requires
 long-end-requires c κs = search needs

@@ -3,11 +3,6 @@ use Rattle.table.proofs.Leaves.{decimal-leaf, string-leaf, path-leaf, n
 use borrow.Author.Needs.{needs}
 use Rattle.table.proofs.text.texted.Statement.{statement}
 use Rattle.table.proofs.text.texted.Tie as tie
-use Rattle.table.proofs.text.texted.Reads as reads
-use Rattle.table.proofs.text.texted.Lts as lts
-use Rattle.table.proofs.text.decimal_end.Reads as decimal-end-reads
-use Rattle.table.proofs.text.path_end.Reads as path-end-reads
-use Rattle.table.proofs.text.string_end.Reads as string-end-reads
 
 decimal-end-requires : tie.Need-decimal-end-requires
 decimal-end-requires c κs = search needs

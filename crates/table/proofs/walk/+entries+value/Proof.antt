@@ -2,7 +2,7 @@
 -- `value` with as many records as it has, so its measure is one more. Assumes nothing.
 use Prim.Native.Nat.{_+_, _-_, _*_, _≤_}
 use native.Mathlib.Omega.{arith}
-use mathlib.Core.Path.{_≡_, sym, _∙_}
+use mathlib.Core.Path.{sym, _∙_}
 use borrow.Author.Tests.{not-true, not-false}
 use Rattle.table.specs.declared.walk.Walk.{Walk}
 use Rattle.table.specs.declared.walk.Walk.the-variants.{Walked, Wrong}
@@ -23,7 +23,7 @@ use Rattle.table.proofs.text.number.Reads as number-reads
 use Rattle.table.proofs.walk.basic.Reads as basic-reads
 use Rattle.table.proofs.walk.head.Reads as head-reads
 use Rattle.table.proofs.walk.label_end.Reads as label-end-reads
-use Rattle.table.proofs.walk.value_of.Reads as value-of-reads
+use Rattle.table.proofs.row.value_of.Reads as value-of-reads
 use Rattle.table.proofs.walk.+entries+value.{statement}
 use Rattle.table.proofs.walk.+entries+value.Tie.{close}
 

@@ -1,5 +1,4 @@
 -- `table::walk::head` meets its contract. Assumes nothing.
-use Prim.Native.Nat.{_+_}
 use native.Mathlib.Omega.{arith}
 use lib.ListN.{length}
 use Rattle.memory.proofs.Laws.{fits-yes, fits-no}
@@ -7,10 +6,6 @@ use Rattle.table.proofs.Heads.{head-outside, head-deep, head-elsewhere,
 use borrow.Author.Needs.{needs}
 use Rattle.table.proofs.walk.head.Statement.{statement}
 use Rattle.table.proofs.walk.head.Tie as tie
-use Rattle.table.proofs.walk.head.Reads as reads
-use Rattle.table.proofs.walk.head.Lts as lts
-use Rattle.memory.proofs.fits.Reads as fits-reads
-use Rattle.table.proofs.text.number.Reads as number-reads
 
 fits-requires : tie.Need-fits-requires
 fits-requires c κs = search needs

@@ -1,14 +1,9 @@
 -- `table::walk::label_end` meets its contract. Assumes nothing.
-use Prim.Native.Nat.{_+_}
 use native.Mathlib.Omega.{arith}
 use Rattle.table.proofs.Heads.{label-elsewhere, label-is}
 use borrow.Author.Needs.{needs}
 use Rattle.table.proofs.walk.label_end.Statement.{statement}
 use Rattle.table.proofs.walk.label_end.Tie as tie
-use Rattle.table.proofs.walk.label_end.Reads as reads
-use Rattle.table.proofs.walk.label_end.Lts as lts
-use Rattle.table.proofs.text.name_end.Reads as name-end-reads
-use Rattle.table.proofs.text.number.Reads as number-reads
 
 add-number : tie.Need-add-number
 add-number c = search needs

@@ -1,13 +1,9 @@
 -- `table::whole::count` meets its contract. Assumes nothing.
 use native.Mathlib.Omega.{arith}
-use Rattle.paper.proofs.Laws.DecodeAt.{Bytes}
 use Rattle.table.proofs.Headers.{header-short, header-form, header-start, header-many, header-long, header-place, header-sum, header-size, header-good}
 use borrow.Author.Needs.{needs}
 use Rattle.table.proofs.whole.count.Statement.{statement}
 use Rattle.table.proofs.whole.count.Tie as tie
-use Rattle.table.proofs.whole.count.Reads as reads
-use Rattle.table.proofs.whole.count.Lts as lts
-use Rattle.table.proofs.whole.long.Reads as long-reads
 
 returns : tie.Need-returns
 returns c = header-short (c .before .before .args .b .now) (c .if1 .taken)

@@ -3,12 +3,6 @@ use Rattle.table.proofs.Headers.{table-unfit, table-is}
 use borrow.Author.Needs.{needs}
 use Rattle.table.proofs.whole.is_table.Statement.{statement}
 use Rattle.table.proofs.whole.is_table.Tie as tie
-use Rattle.table.proofs.whole.is_table.Reads as reads
-use Rattle.table.proofs.whole.is_table.Lts as lts
-use Rattle.table.proofs.whole.count.Reads as count-reads
-use Rattle.table.proofs.whole.records_of.Reads as records-of-reads
-use Rattle.table.proofs.whole.text_of.Reads as text-of-reads
-use Rattle.table.proofs.whole.whole.Reads as whole-reads
 
 count-requires : tie.Need-count-requires
 count-requires c κs = search needs

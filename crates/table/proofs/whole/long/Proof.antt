@@ -4,9 +4,6 @@ use Rattle.memory.proofs.Laws.{word-in}
 use borrow.Author.Needs.{needs}
 use Rattle.table.proofs.whole.long.Statement.{statement}
 use Rattle.table.proofs.whole.long.Tie as tie
-use Rattle.table.proofs.whole.long.Reads as reads
-use Rattle.table.proofs.whole.long.Lts as lts
-use Rattle.memory.proofs.get32.Reads as get32-reads
 
 get32-requires : tie.Need-get32-requires
 get32-requires c κs = search needs

@@ -3,8 +3,6 @@ use native.Mathlib.Nat.{add-sub-cancel-left}
 use borrow.Author.Needs.{needs}
 use Rattle.table.proofs.whole.records_of.Statement.{statement}
 use Rattle.table.proofs.whole.records_of.Tie as tie
-use Rattle.table.proofs.whole.records_of.Reads as reads
-use Rattle.table.proofs.whole.records_of.Lts as lts
 
 mul-end : tie.Need-mul-end
 mul-end c = search needs

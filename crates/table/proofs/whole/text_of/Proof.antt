@@ -7,8 +7,6 @@ use lib.Seq.{take-all, drop-drop}
 use borrow.Author.Needs.{needs}
 use Rattle.table.proofs.whole.text_of.Statement.{statement}
 use Rattle.table.proofs.whole.text_of.Tie as tie
-use Rattle.table.proofs.whole.text_of.Reads as reads
-use Rattle.table.proofs.whole.text_of.Lts as lts
 
 mul-end : tie.Need-mul-end
 mul-end c = search needs

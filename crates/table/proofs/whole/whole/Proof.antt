@@ -3,10 +3,6 @@ use Rattle.table.proofs.Headers.{whole-wrong, whole-more, whole-text, w
 use borrow.Author.Needs.{needs}
 use Rattle.table.proofs.whole.whole.Statement.{statement}
 use Rattle.table.proofs.whole.whole.Tie as tie
-use Rattle.table.proofs.whole.whole.Reads as reads
-use Rattle.table.proofs.whole.whole.Lts as lts
-use Rattle.table.proofs.once.distinct.Reads as distinct-reads
-use Rattle.table.proofs.walk.entries.Reads as entries-reads
 
 entries-requires : tie.Need-entries-requires
 entries-requires c κs = search needs

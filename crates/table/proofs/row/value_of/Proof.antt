@@ -1,14 +1,10 @@
--- `table::walk::value_of` meets its contract. Assumes nothing.
-use Prim.Native.Nat.{_+_}
+-- `table::row::value_of` meets its contract. Assumes nothing.
 use native.Mathlib.Omega.{arith}
 use mathlib.Core.Path.{_∙_}
 use Rattle.memory.proofs.Laws.{word-in}
 use borrow.Author.Needs.{needs}
-use Rattle.table.proofs.walk.value_of.Statement.{statement}
-use Rattle.table.proofs.walk.value_of.Tie as tie
-use Rattle.table.proofs.walk.value_of.Reads as reads
-use Rattle.table.proofs.walk.value_of.Lts as lts
-use Rattle.memory.proofs.get64.Reads as get64-reads
+use Rattle.table.proofs.row.value_of.Statement.{statement}
+use Rattle.table.proofs.row.value_of.Tie as tie
 
 add-get64 : tie.Need-add-get64
 add-get64 c = search needs

@@ -1,0 +1,4 @@
+pub mod Lay
+pub mod Settled
+pub mod Puts
+pub mod Answers
