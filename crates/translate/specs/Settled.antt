@@ -58,6 +58,10 @@ unfoldable pub field-bytes : Fields → List ℕ
 field-bytes f =
     little 2 (f .step) ++ (little 2 (f .kind) ++ (little 2 (f .path) ++ (little 2 (f .span) ++ (little 8 (f .value) ++ little 4 (f .place)))))
 
+-- the same but for the places of texts
+abbrev pub with-texts : Fields → ℕ → ℕ → Fields
+with-texts f p v = record { step = f .step; kind = f .kind; path = p; span = f .span; value = v; place = f .place }
+
 -- ---- rows
 
 unfoldable pub label-at : List ℕ → ℕ → ℕ → Field

@@ -11,7 +11,7 @@ ghost use Prim.Native.Nat.{_*_, _≤_};
 ghost use lib.ListN.{length};
 ghost use Rattle.paper.specs.Layout.{text-of};
 ghost use Rattle.grammar.specs.Ties.{has-path, is-path};
-ghost use Rattle.translate.specs.Settled.{label-at, value-at, fields-at, figureOf, is-long};
+ghost use Rattle.translate.specs.Settled.{label-at, value-at, fields-at, figureOf, is-long, with-texts};
 ghost use Rattle.translate.specs.Puts.{Put, LabelFits, ValueFits, RowFits, Laid};
 
 const MAKE: u16 = 1;
@@ -107,6 +107,20 @@ fn value_figure(step: u16, kind: u16, value: u64, t: usize) -> u64
     value
 }
 
+// The record of a draft: places of text for places of the source, and all else as it is.
+fn with_texts(f: Fields, path: u16, value: u64) -> Fields
+    ensures { λ r. ⌜ r ≡ with-texts f path value ⌝ }
+{
+    Fields {
+        step: f.step,
+        kind: f.kind,
+        path,
+        span: f.span,
+        value,
+        place: f.place,
+    }
+}
+
 // Record i, and its texts where the text of those before it ends, at t of the text, which begins at base.
 pub(crate) fn lay_row(
     src: &[u8],
@@ -124,17 +138,6 @@ pub(crate) fn lay_row(
     let end = put_value(src, f.step, f.kind, f.value, out, mid);
     let path = label_figure(f.step, t);
     let value = value_figure(f.step, f.kind, f.value, mid - base);
-    put_fields(
-        out,
-        24 + 20 * i,
-        Fields {
-            step: f.step,
-            kind: f.kind,
-            path,
-            span: f.span,
-            value,
-            place: f.place,
-        },
-    );
+    put_fields(out, 24 + 20 * i, with_texts(f, path, value));
     end - base
 }

@@ -15,7 +15,7 @@ use Rattle.memory.specs.Memory.{stored}
 use Rattle.memory.proofs.Laws.{length-stored, then-stored, stored-none, stored-apart}
 use Rattle.grammar.specs.Ties.{has-path, is-path}
 use Rattle.translate.specs.Lay.{lay-row, lay, head}
-use Rattle.translate.specs.Settled.{path-at, said-at, is-long, label-at, value-at, figureOf, fields-at, field-bytes, settled, rows-at}
+use Rattle.translate.specs.Settled.{path-at, said-at, is-long, label-at, value-at, figureOf, fields-at, field-bytes, settled, rows-at, with-texts}
 use Rattle.translate.specs.Puts.{Put, Room, PathFits, DecimalFits, StringFits, LabelFits, ValueFits, RowFits, Laid, ListFits, written-list}
 use Rattle.translate.specs.declared.record.Fields.{Fields}
 use Rattle.translate.proofs.Laid.{laid-length, laid}
@@ -231,7 +231,7 @@ module _ {s : List ℕ} {f : Fields} {b : ℕ} {o : List ℕ} {i t : ℕ} (F : R
 
     module _ {o₂ : List ℕ} {end : ℕ} (Q : Put o₁ o₂ mid (text-of (value-at s (f .step) (f .kind) (f .value))) end) where
       row-record : {q v : ℕ} → q ≡ figureOf (has-path (f .step)) 0 t → v ≡ figureOf (is-path (f .step) (f .kind) || is-long (f .kind)) (f .value) (mid - b)
-          → field-bytes (record { step = f .step; kind = f .kind; path = q; span = f .span; value = v; place = f .place }) ≡ row-bytes t (settled s f)
+          → field-bytes (with-texts f q v) ≡ row-bytes t (settled s f)
       unfolding field-bytes row-bytes settled
       row-record {q} {v} e g =
           let m : mid - b ≡ t + length (text-of (label-at s (f .step) (f .path))) = omega (arith, P .end) in
@@ -240,10 +240,10 @@ module _ {s : List ℕ} {f : Fields} {b : ℕ} {o : List ℕ} {i t : ℕ} (F : R
           (e ∙ label-figured s (f .step) (f .path) t) w
 
       pub row-laid : {q v : ℕ} {o₃ : List ℕ} → q ≡ figureOf (has-path (f .step)) 0 t → v ≡ figureOf (is-path (f .step) (f .kind) || is-long (f .kind)) (f .value) (mid - b)
-          → o₃ ≡ stored o₂ (24 + 20 * i) (field-bytes (record { step = f .step; kind = f .kind; path = q; span = f .span; value = v; place = f .place }))
+          → {d : Fields} → d ≡ with-texts f q v → o₃ ≡ stored o₂ (24 + 20 * i) (field-bytes d)
           → Laid s f b o o₃ i t (end - b)
       unfolding lay-row row-text settled
-      row-laid {q} {v} {o₃} e g h =
+      row-laid {q} {v} {o₃} e g {d} k h =
           let L = text-of (label-at s (f .step) (f .path)) in
           let W = text-of (value-at s (f .step) (f .kind) (f .value)) in
           let R = row-bytes t (settled s f) in
@@ -253,7 +253,7 @@ module _ {s : List ℕ} {f : Fields} {b : ℕ} {o : List ℕ} {i t : ℕ} (F : R
           let short : length R ≡ 20 = row-size s f t in
           record {
             is =
-                h ∙ ap₂ (λ (x : List ℕ) (y : List ℕ). stored x A y) both (row-record e g)
+                h ∙ ap₂ (λ (x : List ℕ) (y : List ℕ). stored x A y) both (ap field-bytes k ∙ row-record e g)
                 ∙ stored-apart o A R (b + t) (L ++ W) (omega (arith, F .before)) (omega (arith, F .room, sizes));
             end = omega (arith, P .end, Q .end, sizes);
           }

@@ -1,6 +1,5 @@
 -- `lay_row`: the two texts, then the record before them. Assumes nothing.
 use Rattle.translate.proofs.Rules.Rows.{fits-as, laid-as, row-label, row-value, row-laid}
-use native.Mathlib.Omega.{arith}
 use borrow.Author.Needs.{needs}
 use Rattle.translate.proofs.row.lay_row.Statement.{statement}
 use Rattle.translate.proofs.row.lay_row.Tie as tie
@@ -9,7 +8,7 @@ mul-get-fields : tie.Need-mul-get-fields
 mul-get-fields c = search needs
 
 get-fields-requires : tie.Need-get-fields-requires
-get-fields-requires c κs = omega (arith, c .before .before .before .pre .few)
+get-fields-requires c κs = search needs
 
 add-put-label : tie.Need-add-put-label
 add-put-label c = search needs
@@ -35,6 +34,9 @@ mul-put-fields c = search needs
 add-put-fields : tie.Need-add-put-fields
 add-put-fields c = search needs
 
+with-texts-requires : tie.Need-with-texts-requires
+with-texts-requires c κs = search needs
+
 put-fields-requires : tie.Need-put-fields-requires
 put-fields-requires c κs = search needs
 
@@ -45,7 +47,7 @@ same-length : tie.Need-same-length
 same-length c = search needs
 
 returns : tie.Need-returns
-returns c = laid-as (c .before .before .before .before .before .before .before .before .before .before .before .before .before .before .get-fields .ensures) (row-laid (fits-as (c .before .before .before .before .before .before .before .before .before .before .before .before .before .before .get-fields .ensures) (c .before .before .before .before .before .before .before .before .before .before .before .before .before .before .before .before .before .before .pre)) (c .before .before .before .before .before .before .before .before .before .before .before .before .put-label .ensures) (c .before .before .before .before .before .before .before .before .put-value .ensures) (c .before .before .before .before .before .label-figure .ensures) (c .before .before .before .before .value-figure .ensures) (c .before .before .put-fields .ensures))
+returns c = laid-as (c .before .before .before .before .before .before .before .before .before .before .before .before .before .before .before .get-fields .ensures) (row-laid (fits-as (c .before .before .before .before .before .before .before .before .before .before .before .before .before .before .before .get-fields .ensures) (c .before .before .before .before .before .before .before .before .before .before .before .before .before .before .before .before .before .before .before .pre)) (c .before .before .before .before .before .before .before .before .before .before .before .before .before .put-label .ensures) (c .before .before .before .before .before .before .before .before .before .put-value .ensures) (c .before .before .before .before .before .before .label-figure .ensures) (c .before .before .before .before .before .value-figure .ensures) (c .before .before .before .with-texts .ensures) (c .before .before .put-fields .ensures))
 
 pub lay-row-spec : {M : Type 1} → statement M
 lay-row-spec =
@@ -61,6 +63,7 @@ lay-row-spec =
     value-figure-requires
     mul-put-fields
     add-put-fields
+    with-texts-requires
     put-fields-requires
     sub-result
     same-length
