@@ -14,6 +14,10 @@ use Rattle.grammar.specs.declared.cursor.Cursor.{Cursor}
 use Rattle.grammar.specs.declared.cursor.Went.{Went}
 use Rattle.grammar.specs.declared.cursor.Went.the-variants.{Done, Refused}
 
+-- the same drafts, at another place
+abbrev pub movedTo : Cursor → ℕ → Cursor
+movedTo c at = record { at = at; count = c .count; text = c .text }
+
 -- the mark b is passed
 pub record Passed (s : List ℕ) (from : Cursor) (b : ℕ) (to : Cursor) : Type 0 where
   pub place : ℕ

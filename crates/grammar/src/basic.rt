@@ -22,9 +22,10 @@ pub enum Basic {
     Vector { place: usize },
 }
 
+// What was found, and where the source goes on; or the number and the place of the refusal.
 pub enum Found {
-    Basic { basic: Basic, next: usize },
-    Fault { number: usize, place: usize },
+    Basic(Basic, usize),
+    Fault(usize, usize),
 }
 
 fn of_word(src: &[u8], at: usize, word: Word, place: usize, next: usize) -> Found
@@ -32,27 +33,18 @@ fn of_word(src: &[u8], at: usize, word: Word, place: usize, next: usize) -> Foun
     ensures { λ r. ⌜ FoundIs (now (src .entry)) at r ⌝ }
 {
     match word {
-        Word::True => Found::Basic {
-            basic: Basic::Boolean(true),
-            next,
-        },
-        Word::False => Found::Basic {
-            basic: Basic::Boolean(false),
-            next,
-        },
-        Word::Null => Found::Basic {
-            basic: Basic::Null,
-            next,
-        },
+        Word::True => Found::Basic(Basic::Boolean(true), next),
+        Word::False => Found::Basic(Basic::Boolean(false), next),
+        Word::Null => Found::Basic(Basic::Null, next),
         Word::Data => match read_path(src, next) {
-            Path::Whole { next: past, size } => Found::Basic {
-                basic: Basic::Data { place: next, size },
-                next: past,
-            },
-            Path::Broken { number, place } => Found::Fault { number, place },
+            Path::Whole { next: past, size } => Found::Basic(
+                Basic::Data { place: next, size },
+                past,
+            ),
+            Path::Broken { number, place } => Found::Fault(number, place),
         },
-        Word::Extends => Found::Fault { number: 3, place },
-        Word::Other => Found::Fault { number: 3, place },
+        Word::Extends => Found::Fault(3, place),
+        Word::Other => Found::Fault(3, place),
     }
 }
 
@@ -67,41 +59,32 @@ pub(crate) fn find_basic(src: &[u8], at: usize) -> Found
             place,
             next,
         } => match literal {
-            Literal::Integer(bits) => Found::Basic {
-                basic: Basic::Integer(bits),
-                next,
-            },
-            Literal::Decimal => Found::Basic {
-                basic: Basic::Decimal {
+            Literal::Integer(bits) => Found::Basic(Basic::Integer(bits), next),
+            Literal::Decimal => Found::Basic(
+                Basic::Decimal {
                     place,
                     size: next - place + 2,
                 },
                 next,
-            },
-            Literal::Text(n) => Found::Basic {
-                basic: Basic::Text { place, size: n + 2 },
-                next,
-            },
+            ),
+            Literal::Text(n) => Found::Basic(Basic::Text { place, size: n + 2 }, next),
         },
         Seen::Mark { byte, place, next } => {
             if byte == b'[' {
-                return Found::Basic {
-                    basic: Basic::Vector { place },
-                    next,
-                };
+                return Found::Basic(Basic::Vector { place }, next);
             }
-            Found::Fault { number: 3, place }
+            Found::Fault(3, place)
         }
-        Seen::Name { place, next: _ } => Found::Fault { number: 3, place },
-        Seen::End { place } => Found::Fault { number: 3, place },
-        Seen::Fault { number, place } => Found::Fault { number, place },
+        Seen::Name { place, next: _ } => Found::Fault(3, place),
+        Seen::End { place } => Found::Fault(3, place),
+        Seen::Fault { number, place } => Found::Fault(number, place),
     }
 }
 
-// A basic as a draft has it: kind, value and size; or a vector, of which only the bracket is read.
+// A basic as a draft has it: kind, value and size; or a vector, of which only the bracket, at a place, is read.
 pub enum Laid {
-    Plain { kind: u16, value: u64, size: usize },
-    Opened { place: usize },
+    Plain(u16, u64, usize),
+    Opened(usize),
 }
 
 pub fn lay(basic: Basic) -> Laid
@@ -110,43 +93,15 @@ pub fn lay(basic: Basic) -> Laid
     match basic {
         Basic::Boolean(b) => {
             if b {
-                return Laid::Plain {
-                    kind: 1,
-                    value: 1,
-                    size: 0,
-                };
+                return Laid::Plain(1, 1, 0);
             }
-            Laid::Plain {
-                kind: 1,
-                value: 0,
-                size: 0,
-            }
+            Laid::Plain(1, 0, 0)
         }
-        Basic::Null => Laid::Plain {
-            kind: 2,
-            value: 0,
-            size: 0,
-        },
-        Basic::Integer(bits) => Laid::Plain {
-            kind: 3,
-            value: bits,
-            size: 0,
-        },
-        Basic::Decimal { place, size } => Laid::Plain {
-            kind: 4,
-            value: place as u64,
-            size,
-        },
-        Basic::Text { place, size } => Laid::Plain {
-            kind: 5,
-            value: place as u64,
-            size,
-        },
-        Basic::Data { place, size } => Laid::Plain {
-            kind: 6,
-            value: place as u64,
-            size,
-        },
-        Basic::Vector { place } => Laid::Opened { place },
+        Basic::Null => Laid::Plain(2, 0, 0),
+        Basic::Integer(bits) => Laid::Plain(3, bits, 0),
+        Basic::Decimal { place, size } => Laid::Plain(4, place as u64, size),
+        Basic::Text { place, size } => Laid::Plain(5, place as u64, size),
+        Basic::Data { place, size } => Laid::Plain(6, place as u64, size),
+        Basic::Vector { place } => Laid::Opened(place),
     }
 }

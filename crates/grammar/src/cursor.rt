@@ -4,7 +4,7 @@ use crate::token::mark;
 ghost use mathlib.Core.Path.{_≡_};
 ghost use Prim.Native.Nat.{_≤_};
 ghost use lib.ListN.{length};
-ghost use Rattle.grammar.specs.Went.{PassIs};
+ghost use Rattle.grammar.specs.Went.{movedTo, PassIs};
 
 pub struct Cursor {
     pub at: usize,
@@ -12,9 +12,21 @@ pub struct Cursor {
     pub text: usize,
 }
 
+// Where it then stands, or the number and the place of the refusal.
 pub enum Went {
     Done(Cursor),
-    Refused { number: usize, place: usize },
+    Refused(usize, usize),
+}
+
+// The same drafts, at another place.
+pub fn moved(c: Cursor, at: usize) -> Cursor
+    ensures { λ r. ⌜ r ≡ movedTo c at ⌝ }
+{
+    Cursor {
+        at,
+        count: c.count,
+        text: c.text,
+    }
 }
 
 // The mark has to stand here; nothing else changes.
@@ -28,6 +40,6 @@ pub(crate) fn pass(src: &[u8], from: Cursor, byte: u8) -> Went
             count: from.count,
             text: from.text,
         }),
-        Took::Missing { number, place } => Went::Refused { number, place },
+        Took::Missing { number, place } => Went::Refused(number, place),
     }
 }

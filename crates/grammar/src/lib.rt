@@ -44,7 +44,7 @@ fn read_whole(src: &[u8], work: &mut [u8]) -> Read
             },
             Ending::Refused { number, place } => Read::Refused { number, place },
         },
-        Went::Refused { number, place } => Read::Refused { number, place },
+        Went::Refused(number, place) => Read::Refused { number, place },
     }
 }
 

@@ -64,16 +64,13 @@ pub(crate) fn read_path(src: &[u8], at: usize) -> Path
                 left -= 1;
                 size += next - place + 1;
                 match follows(src, next, b':') {
-                    Ahead::Yes {
-                        place: _,
-                        next: more,
-                    } => {
+                    Ahead::Yes(_, more) => {
                         i = more;
                     }
                     Ahead::No => {
                         return Path::Whole { next, size };
                     }
-                    Ahead::Fault { number, place } => {
+                    Ahead::Fault(number, place) => {
                         return Path::Broken { number, place };
                     }
                 }

@@ -1,6 +1,7 @@
 // Statements, prototype lists and blocks: readers that call one another. Each call is on a shorter rest of the source.
 use crate::cursor::Cursor;
 use crate::cursor::Went;
+use crate::cursor::moved;
 use crate::cursor::pass;
 use crate::draft::Entry;
 use crate::draft::put;
@@ -50,17 +51,11 @@ pub(crate) fn read_statements(src: &[u8], from: Cursor, left: usize, work: &mut 
                     Went::Done(to) => {
                         c = to;
                     }
-                    Went::Refused { number, place } => {
-                        return Went::Refused { number, place };
-                    }
+                    Went::Refused(number, place) => return Went::Refused(number, place),
                 }
             }
-            Reference::Absent => {
-                return Went::Done(c);
-            }
-            Reference::Fault { number, place } => {
-                return Went::Refused { number, place };
-            }
+            Reference::Absent => return Went::Done(c),
+            Reference::Fault { number, place } => return Went::Refused(number, place),
         }
     }
 }
@@ -105,65 +100,44 @@ fn read_value(src: &[u8], target: Target, from: Cursor, left: usize, work: &mut 
     ensures { λ r. ⌜ ValueRead (now (src .entry)) target from left (now (work .entry)) (now (work .exit)) r ⌝ }
 {
     match find_value(src, from.at) {
-        Begun::Value { value, next } => match value {
-            Value::Basic(basic) => {
-                let own = Own {
-                    step: 6,
-                    path: target.place,
-                    place: target.place,
-                    size: target.size,
-                };
-                match read_basic(
-                    src,
-                    basic,
-                    own,
-                    Cursor {
-                        at: next,
-                        count: from.count,
-                        text: from.text,
-                    },
-                    left,
-                    work,
-                ) {
-                    Went::Done(to) => pass(src, to, b';'),
-                    Went::Refused { number, place } => Went::Refused { number, place },
-                }
-            }
-            Value::Link { place, size } => {
-                read_link(
-                    src,
-                    target,
-                    Cursor {
-                        at: next,
-                        count: from.count,
-                        text: from.text,
-                    },
-                    place,
-                    size,
-                    work,
-                )
-            }
-            Value::Extends => {
-                put_path(work, from.count, 1, target.place);
-                let first = Cursor {
-                    at: next,
-                    count: from.count + 1,
-                    text: from.text + target.size,
-                };
-                match read_prototypes(src, first, left, work) {
-                    Went::Done(to) => {
-                        put_bare(work, to.count, 5);
-                        Went::Done(Cursor {
-                            at: to.at,
-                            count: to.count + 1,
-                            text: to.text,
-                        })
+        Begun::Value { value, next } => {
+            let c = moved(from, next);
+            match value {
+                Value::Basic(basic) => {
+                    let own = Own {
+                        step: 6,
+                        path: target.place,
+                        place: target.place,
+                        size: target.size,
+                    };
+                    match read_basic(src, basic, own, c, left, work) {
+                        Went::Done(to) => pass(src, to, b';'),
+                        Went::Refused(number, place) => Went::Refused(number, place),
                     }
-                    Went::Refused { number, place } => Went::Refused { number, place },
+                }
+                Value::Link { place, size } => read_link(src, target, c, place, size, work),
+                Value::Extends => {
+                    put_path(work, from.count, 1, target.place);
+                    let first = Cursor {
+                        at: next,
+                        count: from.count + 1,
+                        text: from.text + target.size,
+                    };
+                    match read_prototypes(src, first, left, work) {
+                        Went::Done(to) => {
+                            put_bare(work, to.count, 5);
+                            Went::Done(Cursor {
+                                at: to.at,
+                                count: to.count + 1,
+                                text: to.text,
+                            })
+                        }
+                        Went::Refused(number, place) => Went::Refused(number, place),
+                    }
                 }
             }
-        },
-        Begun::Fault { number, place } => Went::Refused { number, place },
+        }
+        Begun::Fault { number, place } => Went::Refused(number, place),
     }
 }
 
@@ -182,50 +156,24 @@ fn read_prototypes(src: &[u8], from: Cursor, left: usize, work: &mut [u8]) -> We
                     text: c.text + size,
                 };
                 match follows(src, next, b',') {
-                    Ahead::Yes {
-                        place: _,
-                        next: more,
-                    } => {
-                        c = Cursor {
-                            at: more,
-                            count: to.count,
-                            text: to.text,
-                        };
+                    Ahead::Yes(_, more) => {
+                        c = moved(to, more);
                     }
-                    Ahead::No => {
-                        return pass(src, to, b';');
-                    }
-                    Ahead::Fault { number, place } => {
-                        return Went::Refused { number, place };
-                    }
+                    Ahead::No => return pass(src, to, b';'),
+                    Ahead::Fault(number, place) => return Went::Refused(number, place),
                 }
             }
             Reference::Absent => match read_block(src, c, left, work) {
                 Went::Done(to) => match follows(src, to.at, b',') {
-                    Ahead::Yes {
-                        place: _,
-                        next: more,
-                    } => {
-                        c = Cursor {
-                            at: more,
-                            count: to.count,
-                            text: to.text,
-                        };
+                    Ahead::Yes(_, more) => {
+                        c = moved(to, more);
                     }
-                    Ahead::No => {
-                        return Went::Done(to);
-                    }
-                    Ahead::Fault { number, place } => {
-                        return Went::Refused { number, place };
-                    }
+                    Ahead::No => return Went::Done(to),
+                    Ahead::Fault(number, place) => return Went::Refused(number, place),
                 },
-                Went::Refused { number, place } => {
-                    return Went::Refused { number, place };
-                }
+                Went::Refused(number, place) => return Went::Refused(number, place),
             },
-            Reference::Fault { number, place } => {
-                return Went::Refused { number, place };
-            }
+            Reference::Fault { number, place } => return Went::Refused(number, place),
         }
     }
 }
@@ -238,7 +186,7 @@ fn read_block(src: &[u8], from: Cursor, left: usize, work: &mut [u8]) -> Went
     match mark(src, from.at, b'{') {
         Took::At { place, next } => {
             if left == 0 {
-                return Went::Refused { number: 5, place };
+                return Went::Refused(5, place);
             }
             put_bare(work, from.count, 3);
             match read_statements(
@@ -263,11 +211,11 @@ fn read_block(src: &[u8], from: Cursor, left: usize, work: &mut [u8]) -> Went
                             text: to.text,
                         })
                     }
-                    Took::Missing { number, place } => Went::Refused { number, place },
+                    Took::Missing { number, place } => Went::Refused(number, place),
                 },
-                Went::Refused { number, place } => Went::Refused { number, place },
+                Went::Refused(number, place) => Went::Refused(number, place),
             }
         }
-        Took::Missing { number, place } => Went::Refused { number, place },
+        Took::Missing { number, place } => Went::Refused(number, place),
     }
 }

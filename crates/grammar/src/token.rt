@@ -152,11 +152,11 @@ pub(crate) fn mark(src: &[u8], at: usize, byte: u8) -> Took
     }
 }
 
-// A mark that may stand here.
+// A mark that may stand here: its place, and where the source goes on; or the number and the place of a refusal.
 pub enum Ahead {
-    Yes { place: usize, next: usize },
+    Yes(usize, usize),
     No,
-    Fault { number: usize, place: usize },
+    Fault(usize, usize),
 }
 
 pub(crate) fn follows(src: &[u8], at: usize, byte: u8) -> Ahead
@@ -170,7 +170,7 @@ pub(crate) fn follows(src: &[u8], at: usize, byte: u8) -> Ahead
             next,
         } => {
             if found == byte {
-                return Ahead::Yes { place, next };
+                return Ahead::Yes(place, next);
             }
             Ahead::No
         }
@@ -186,7 +186,7 @@ pub(crate) fn follows(src: &[u8], at: usize, byte: u8) -> Ahead
             next: _,
         } => Ahead::No,
         Seen::End { place: _ } => Ahead::No,
-        Seen::Fault { number, place } => Ahead::Fault { number, place },
+        Seen::Fault { number, place } => Ahead::Fault(number, place),
     }
 }
 

@@ -29,11 +29,11 @@ fn find_plain(src: &[u8], at: usize) -> Begun
     ensures { λ r. ⌜ BegunIs (now (src .entry)) at r ⌝ }
 {
     match find_basic(src, at) {
-        Found::Basic { basic, next } => Begun::Value {
+        Found::Basic(basic, next) => Begun::Value {
             value: Value::Basic(basic),
             next,
         },
-        Found::Fault { number, place } => Begun::Fault { number, place },
+        Found::Fault(number, place) => Begun::Fault { number, place },
     }
 }
 

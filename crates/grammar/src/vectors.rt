@@ -6,6 +6,7 @@ use crate::basic::find_basic;
 use crate::basic::lay;
 use crate::cursor::Cursor;
 use crate::cursor::Went;
+use crate::cursor::moved;
 use crate::cursor::pass;
 use crate::draft::Entry;
 use crate::draft::put;
@@ -58,7 +59,7 @@ pub(crate) fn read_basic(
     let n = from.count;
     let text = from.text + own.size;
     match lay(basic) {
-        Laid::Plain { kind, value, size } => {
+        Laid::Plain(kind, value, size) => {
             put_own(work, n, own, kind, 1, value);
             Went::Done(Cursor {
                 at: from.at,
@@ -66,12 +67,12 @@ pub(crate) fn read_basic(
                 text: text + size,
             })
         }
-        Laid::Opened { place } => {
+        Laid::Opened(place) => {
             if left == 0 {
-                return Went::Refused { number: 5, place };
+                return Went::Refused(5, place);
             }
             match follows(src, from.at, b']') {
-                Ahead::Yes { place: _, next } => {
+                Ahead::Yes(_, next) => {
                     put_own(work, n, own, 7, 1, 0);
                     Went::Done(Cursor {
                         at: next,
@@ -93,9 +94,9 @@ pub(crate) fn read_basic(
                         put_own(work, n, own, 7, to.count - n, 0);
                         Went::Done(to)
                     }
-                    Went::Refused { number, place } => Went::Refused { number, place },
+                    Went::Refused(number, place) => Went::Refused(number, place),
                 },
-                Ahead::Fault { number, place } => Went::Refused { number, place },
+                Ahead::Fault(number, place) => Went::Refused(number, place),
             }
         }
     }
@@ -115,45 +116,19 @@ fn read_items(src: &[u8], from: Cursor, left: usize, work: &mut [u8]) -> Went
     let mut c = from;
     loop {
         match find_basic(src, c.at) {
-            Found::Basic { basic, next } => {
-                match read_basic(
-                    src,
-                    basic,
-                    item,
-                    Cursor {
-                        at: next,
-                        count: c.count,
-                        text: c.text,
-                    },
-                    left,
-                    work,
-                ) {
+            Found::Basic(basic, next) => {
+                match read_basic(src, basic, item, moved(c, next), left, work) {
                     Went::Done(to) => match follows(src, to.at, b',') {
-                        Ahead::Yes {
-                            place: _,
-                            next: more,
-                        } => {
-                            c = Cursor {
-                                at: more,
-                                count: to.count,
-                                text: to.text,
-                            };
+                        Ahead::Yes(_, more) => {
+                            c = moved(to, more);
                         }
-                        Ahead::No => {
-                            return pass(src, to, b']');
-                        }
-                        Ahead::Fault { number, place } => {
-                            return Went::Refused { number, place };
-                        }
+                        Ahead::No => return pass(src, to, b']'),
+                        Ahead::Fault(number, place) => return Went::Refused(number, place),
                     },
-                    Went::Refused { number, place } => {
-                        return Went::Refused { number, place };
-                    }
+                    Went::Refused(number, place) => return Went::Refused(number, place),
                 }
             }
-            Found::Fault { number, place } => {
-                return Went::Refused { number, place };
-            }
+            Found::Fault(number, place) => return Went::Refused(number, place),
         }
     }
 }

@@ -23,6 +23,7 @@ use Rattle.grammar.proofs.statements.+read_block+read_prototypes+read_s
 use Rattle.grammar.proofs.statements.read_value.Reads as read-value
 use Rattle.grammar.proofs.statements.read_value.Kinds as read-value-kinds
 use Rattle.grammar.proofs.statements.+read_block+read_prototypes+read_statements+read_value.Lts-read_value as read-value-lts
+use Rattle.grammar.proofs.cursor.moved.Reads as moved-reads
 use Rattle.grammar.proofs.cursor.pass.Reads as pass-reads
 use Rattle.grammar.proofs.draft.put_bare.Reads as put-bare-reads
 use Rattle.grammar.proofs.draft.put_path.Reads as put-path-reads
@@ -170,7 +171,7 @@ read-prototypes-μ-loop src left work₀ c₀ work c = length src - c .at
 
 -- what is known of the functions that `read_prototypes` calls
 abbrev read-prototypes-knows : ℕ → read-prototypes-lts.Claims
-read-prototypes-knows t = (read-reference-reads.Asked, read-reference-reads.Learnt, put-path-reads.Asked, put-path-reads.Learnt, follows-reads.Asked, follows-reads.Learnt, pass-reads.Asked, pass-reads.Learnt, read-block-below t, read-block.Post)
+read-prototypes-knows t = (read-reference-reads.Asked, read-reference-reads.Learnt, put-path-reads.Asked, put-path-reads.Learnt, follows-reads.Asked, follows-reads.Learnt, moved-reads.Asked, moved-reads.Learnt, pass-reads.Asked, pass-reads.Learnt, read-block-below t, read-block.Post)
 
 read-prototypes-loop-holds : (t : ℕ) → read-prototypes-lts.Need-loop-holds (read-prototypes-knows t) (read-prototypes-at t) read-prototypes.Post read-prototypes-Inv-loop read-prototypes-μ-loop
 read-prototypes-loop-holds t c = record { fit = c .before .before .pre .1; on = omega arith; long = refl; onward = λ e r w. w }
@@ -192,27 +193,30 @@ read-prototypes-add-t26 t c =
 read-prototypes-follows-requires : (t : ℕ) → read-prototypes-lts.Need-follows-requires (read-prototypes-knows t) (read-prototypes-at t) read-prototypes.Post read-prototypes-Inv-loop read-prototypes-μ-loop
 read-prototypes-follows-requires t c κs = let R = (rw (c .before .before .before .before .before .before .before .place .given .1) at (c .before .before .before .before .before .before .before .before .before .read-reference .ensures)) in R .whole .within
 
+read-prototypes-moved-requires : (t : ℕ) → read-prototypes-lts.Need-moved-requires (read-prototypes-knows t) (read-prototypes-at t) read-prototypes.Post read-prototypes-Inv-loop read-prototypes-μ-loop
+read-prototypes-moved-requires t c κs = search needs
+
 read-prototypes-loop-less : (t : ℕ) → read-prototypes-lts.Need-loop-less (read-prototypes-knows t) (read-prototypes-at t) read-prototypes.Post read-prototypes-Inv-loop read-prototypes-μ-loop
 read-prototypes-loop-less t c =
-    let R = (rw (c .before .before .before .before .before .before .before .before .before .before .before .place .given .1) at (c .before .before .before .before .before .before .before .before .before .before .before .before .before .read-reference .ensures)) in
-    let M = rw (c .before .more .given .1) at (c .before .before .before .follows .ensures) in
-    omega (arith, R .whole .ahead, M)
+    let R = (rw (c .before .before .before .before .before .before .before .before .before .before .before .before .place .given .1) at (c .before .before .before .before .before .before .before .before .before .before .before .before .before .before .read-reference .ensures)) in
+    let M = rw (c .before .before .more .given .1) at (c .before .before .before .before .follows .ensures) in
+    rw (c .moved .ensures) (omega (arith, R .whole .ahead, M))
 
 read-prototypes-loop-again : (t : ℕ) → read-prototypes-lts.Need-loop-again (read-prototypes-knows t) (read-prototypes-at t) read-prototypes.Post read-prototypes-Inv-loop read-prototypes-μ-loop
 read-prototypes-loop-again t c =
-    let R = (rw (c .before .before .before .before .before .before .before .before .before .before .before .place .given .1) at (c .before .before .before .before .before .before .before .before .before .before .before .before .before .read-reference .ensures)) in
-    let M = rw (c .before .more .given .1) at (c .before .before .before .follows .ensures) in
-    let F = c .before .before .before .before .before .before .before .before .before .before .before .before .before .before .loop .inv .fit in
-    record {
+    let R = (rw (c .before .before .before .before .before .before .before .before .before .before .before .before .place .given .1) at (c .before .before .before .before .before .before .before .before .before .before .before .before .before .before .read-reference .ensures)) in
+    let M = rw (c .before .before .more .given .1) at (c .before .before .before .before .follows .ensures) in
+    let F = c .before .before .before .before .before .before .before .before .before .before .before .before .before .before .before .loop .inv .fit in
+    rw (c .moved .ensures) (record {
       fit = record {
-        fits = record { short = F .fits .short; within = M .within; room = omega (arith, F .fits .room, c .before .before .before .before .before .before .before .before .put-path .kept .0) };
+        fits = record { short = F .fits .short; within = M .within; room = omega (arith, F .fits .room, c .before .before .before .before .before .before .before .before .before .put-path .kept .0) };
         few = omega (arith, F .few, R .whole .ahead, M);
         light = omega (arith, F .light, R .whole .light, R .whole .ahead, M);
       };
-      on = omega (arith, c .before .before .before .before .before .before .before .before .before .before .before .before .before .before .loop .inv .on, R .whole .ahead, M);
-      long = (c .before .before .before .before .before .before .before .before .put-path .kept .0) ∙ c .before .before .before .before .before .before .before .before .before .before .before .before .before .before .loop .inv .long;
-      onward = λ e r P. c .before .before .before .before .before .before .before .before .before .before .before .before .before .before .loop .inv .onward e r (ref-more _ _ _ _ _ _ _ R _ (c .before .before .before .before .before .before .before .before .put-path .ensures) _ _ _ r M P);
-    }
+      on = omega (arith, c .before .before .before .before .before .before .before .before .before .before .before .before .before .before .before .loop .inv .on, R .whole .ahead, M);
+      long = (c .before .before .before .before .before .before .before .before .before .put-path .kept .0) ∙ c .before .before .before .before .before .before .before .before .before .before .before .before .before .before .before .loop .inv .long;
+      onward = λ e r P. c .before .before .before .before .before .before .before .before .before .before .before .before .before .before .before .loop .inv .onward e r (ref-more _ _ _ _ _ _ _ R _ (c .before .before .before .before .before .before .before .before .before .put-path .ensures) _ _ _ r M P);
+    })
 
 read-prototypes-pass-requires : (t : ℕ) → read-prototypes-lts.Need-pass-requires (read-prototypes-knows t) (read-prototypes-at t) read-prototypes.Post read-prototypes-Inv-loop read-prototypes-μ-loop
 read-prototypes-pass-requires t c κs = let R = (rw (c .before .before .before .before .before .before .before .before .before .before .place .given .1) at (c .before .before .before .before .before .before .before .before .before .before .before .before .read-reference .ensures)) in R .whole .within
@@ -235,27 +239,30 @@ read-prototypes-read-block-requires t c κs = (omega (arith, c .before .before .
 read-prototypes-follows-requires-2 : (t : ℕ) → read-prototypes-lts.Need-follows-requires-2 (read-prototypes-knows t) (read-prototypes-at t) read-prototypes.Post read-prototypes-Inv-loop read-prototypes-μ-loop
 read-prototypes-follows-requires-2 t c κs = let B = (rw (c .before .to .given .1) at (c .before .before .before .before .before .read-block .ensures)) in B .ahead .within
 
+read-prototypes-moved-requires-2 : (t : ℕ) → read-prototypes-lts.Need-moved-requires-2 (read-prototypes-knows t) (read-prototypes-at t) read-prototypes.Post read-prototypes-Inv-loop read-prototypes-μ-loop
+read-prototypes-moved-requires-2 t c κs = search needs
+
 read-prototypes-loop-less-2 : (t : ℕ) → read-prototypes-lts.Need-loop-less-2 (read-prototypes-knows t) (read-prototypes-at t) read-prototypes.Post read-prototypes-Inv-loop read-prototypes-μ-loop
 read-prototypes-loop-less-2 t c =
-    let B = (rw (c .before .before .before .before .before .to .given .1) at (c .before .before .before .before .before .before .before .before .before .read-block .ensures)) in
-    let M = rw (c .before .more2 .given .1) at (c .before .before .before .follows2 .ensures) in
-    omega (arith, B .ahead, M)
+    let B = (rw (c .before .before .before .before .before .before .to .given .1) at (c .before .before .before .before .before .before .before .before .before .before .read-block .ensures)) in
+    let M = rw (c .before .before .more2 .given .1) at (c .before .before .before .before .follows2 .ensures) in
+    rw (c .moved2 .ensures) (omega (arith, B .ahead, M))
 
 read-prototypes-loop-again-2 : (t : ℕ) → read-prototypes-lts.Need-loop-again-2 (read-prototypes-knows t) (read-prototypes-at t) read-prototypes.Post read-prototypes-Inv-loop read-prototypes-μ-loop
 read-prototypes-loop-again-2 t c =
-    let B = (rw (c .before .before .before .before .before .to .given .1) at (c .before .before .before .before .before .before .before .before .before .read-block .ensures)) in
-    let M = rw (c .before .more2 .given .1) at (c .before .before .before .follows2 .ensures) in
-    let F = c .before .before .before .before .before .before .before .before .before .before .before .before .before .before .loop .inv .fit in
-    record {
+    let B = (rw (c .before .before .before .before .before .before .to .given .1) at (c .before .before .before .before .before .before .before .before .before .before .read-block .ensures)) in
+    let M = rw (c .before .before .more2 .given .1) at (c .before .before .before .before .follows2 .ensures) in
+    let F = c .before .before .before .before .before .before .before .before .before .before .before .before .before .before .before .loop .inv .fit in
+    rw (c .moved2 .ensures) (record {
       fit = record {
-        fits = record { short = F .fits .short; within = M .within; room = omega (arith, F .fits .room, c .before .before .before .before .before .before .before .before .before .read-block .kept .1 .1 .1 .0) };
+        fits = record { short = F .fits .short; within = M .within; room = omega (arith, F .fits .room, c .before .before .before .before .before .before .before .before .before .before .read-block .kept .1 .1 .1 .0) };
         few = omega (arith, F .few, B .ahead, M);
         light = omega (arith, F .light, B .ahead, M);
       };
-      on = omega (arith, c .before .before .before .before .before .before .before .before .before .before .before .before .before .before .loop .inv .on, B .ahead, M);
-      long = (c .before .before .before .before .before .before .before .before .before .read-block .kept .1 .1 .1 .0) ∙ c .before .before .before .before .before .before .before .before .before .before .before .before .before .before .loop .inv .long;
-      onward = λ e r P. c .before .before .before .before .before .before .before .before .before .before .before .before .before .before .loop .inv .onward e r (inner-more _ _ _ _ (rw (c .before .before .before .before .before .before .before .before .before .before .before .enum-told2 .given .1) at (c .before .before .before .before .before .before .before .before .before .before .before .before .before .read-reference .ensures)) _ _ B _ _ _ r M P);
-    }
+      on = omega (arith, c .before .before .before .before .before .before .before .before .before .before .before .before .before .before .before .loop .inv .on, B .ahead, M);
+      long = (c .before .before .before .before .before .before .before .before .before .before .read-block .kept .1 .1 .1 .0) ∙ c .before .before .before .before .before .before .before .before .before .before .before .before .before .before .before .loop .inv .long;
+      onward = λ e r P. c .before .before .before .before .before .before .before .before .before .before .before .before .before .before .before .loop .inv .onward e r (inner-more _ _ _ _ (rw (c .before .before .before .before .before .before .before .before .before .before .before .before .enum-told2 .given .1) at (c .before .before .before .before .before .before .before .before .before .before .before .before .before .before .read-reference .ensures)) _ _ B _ _ _ r M P);
+    })
 
 read-prototypes-same-length-3 : (t : ℕ) → read-prototypes-lts.Need-same-length-3 (read-prototypes-knows t) (read-prototypes-at t) read-prototypes.Post read-prototypes-Inv-loop read-prototypes-μ-loop
 read-prototypes-same-length-3 t c = (c .before .before .before .before .before .before .before .before .read-block .kept .1 .1 .1 .0) ∙ c .before .before .before .before .before .before .before .before .before .before .before .before .before .loop .inv .long
@@ -351,90 +358,93 @@ read-statements-returns-3 t c = c .before .before .before .before .loop .inv .on
 
 -- what is known of the functions that `read_value` calls
 abbrev read-value-knows : ℕ → read-value-lts.Claims
-read-value-knows t = (find-value-reads.Asked, find-value-reads.Learnt, read-basic-reads.Asked, read-basic-reads.Learnt, pass-reads.Asked, pass-reads.Learnt, read-link-reads.Asked, read-link-reads.Learnt, put-path-reads.Asked, put-path-reads.Learnt, read-prototypes-below t, read-prototypes.Post, put-bare-reads.Asked, put-bare-reads.Learnt)
+read-value-knows t = (find-value-reads.Asked, find-value-reads.Learnt, moved-reads.Asked, moved-reads.Learnt, read-basic-reads.Asked, read-basic-reads.Learnt, pass-reads.Asked, pass-reads.Learnt, read-link-reads.Asked, read-link-reads.Learnt, put-path-reads.Asked, put-path-reads.Learnt, read-prototypes-below t, read-prototypes.Post, put-bare-reads.Asked, put-bare-reads.Learnt)
 
 read-value-find-value-requires : (t : ℕ) → read-value-lts.Need-find-value-requires (read-value-knows t) (read-value-at t) read-value.Post
 read-value-find-value-requires t c κs = c .before .before .pre .1 .fits .within
 
+read-value-moved-requires : (t : ℕ) → read-value-lts.Need-moved-requires (read-value-knows t) (read-value-at t) read-value.Post
+read-value-moved-requires t c κs = search needs
+
 read-value-read-basic-requires : (t : ℕ) → read-value-lts.Need-read-basic-requires (read-value-knows t) (read-value-at t) read-value.Post
 read-value-read-basic-requires t c κs =
-    let F = (rw (c .before .before .value2 .given .1) at (rw (c .before .before .before .before .before .value .given .1) at (c .before .before .before .before .before .before .before .find-value .ensures))) in
-    record {
-      fits = record { short = c .before .before .before .before .before .before .before .before .before .before .pre .1 .fits .short; within = F .within; room = c .before .before .before .before .before .before .before .before .before .before .pre .1 .fits .room };
-      few = omega (arith, c .before .before .before .before .before .before .before .before .before .before .pre .1, F .ahead);
-      light = omega (arith, c .before .before .before .before .before .before .before .before .before .before .pre .1, F .light);
-    }
+    let F = (rw (c .before .before .value2 .given .1) at (rw (c .before .before .before .before .before .before .value .given .1) at (c .before .before .before .before .before .before .before .before .find-value .ensures))) in
+    rw (c .before .before .before .before .moved .ensures) (record {
+      fits = record { short = c .before .before .before .before .before .before .before .before .before .before .before .pre .1 .fits .short; within = F .within; room = c .before .before .before .before .before .before .before .before .before .before .before .pre .1 .fits .room };
+      few = omega (arith, c .before .before .before .before .before .before .before .before .before .before .before .pre .1, F .ahead);
+      light = omega (arith, c .before .before .before .before .before .before .before .before .before .before .before .pre .1, F .light);
+    })
 
 read-value-pass-requires : (t : ℕ) → read-value-lts.Need-pass-requires (read-value-knows t) (read-value-at t) read-value.Post
-read-value-pass-requires t c κs = let D = (rw (c .before .to .given .1) at (c .before .before .before .before .before .read-basic .ensures)) in D .ahead .within
+read-value-pass-requires t c κs = let D = (rw (c .before .before .before .before .before .before .before .before .before .before .moved .ensures) at (rw (c .before .to .given .1) at (c .before .before .before .before .before .read-basic .ensures))) in D .ahead .within
 
 read-value-read-link-requires : (t : ℕ) → read-value-lts.Need-read-link-requires (read-value-knows t) (read-value-at t) read-value.Post
 read-value-read-link-requires t c κs =
-    let F = (rw (c .before .before .value3 .given .1) at (rw (c .before .before .before .before .before .value .given .1) at (c .before .before .before .before .before .before .before .find-value .ensures))) in
-    record {
-      fits = record { short = c .before .before .before .before .before .before .before .before .before .before .pre .1 .fits .short; within = F .within; room = c .before .before .before .before .before .before .before .before .before .before .pre .1 .fits .room };
-      few = omega (arith, c .before .before .before .before .before .before .before .before .before .before .pre .1, F .ahead);
-      light = omega (arith, c .before .before .before .before .before .before .before .before .before .before .pre .1, F .light);
-    }
+    let F = (rw (c .before .before .value3 .given .1) at (rw (c .before .before .before .before .before .before .value .given .1) at (c .before .before .before .before .before .before .before .before .find-value .ensures))) in
+    rw (c .before .before .before .before .moved .ensures) (record {
+      fits = record { short = c .before .before .before .before .before .before .before .before .before .before .before .pre .1 .fits .short; within = F .within; room = c .before .before .before .before .before .before .before .before .before .before .before .pre .1 .fits .room };
+      few = omega (arith, c .before .before .before .before .before .before .before .before .before .before .before .pre .1, F .ahead);
+      light = omega (arith, c .before .before .before .before .before .before .before .before .before .before .before .pre .1, F .light);
+    })
 
 read-value-put-path-requires : (t : ℕ) → read-value-lts.Need-put-path-requires (read-value-knows t) (read-value-at t) read-value.Post
-read-value-put-path-requires t c κs = omega (arith, c .before .before .before .before .before .before .before .before .before .pre .1 .fits)
+read-value-put-path-requires t c κs = omega (arith, c .before .before .before .before .before .before .before .before .before .before .pre .1 .fits)
+
+read-value-add-t34 : (t : ℕ) → read-value-lts.Need-add-t34 (read-value-knows t) (read-value-at t) read-value.Post
+read-value-add-t34 t c = omega (arith, c .before .before .before .before .before .before .before .before .before .before .before .before .before .before .pre .1, c .before .before .before .before .before .before .before .before .before .before .before .before .before .before .pre .1 .fits)
 
 read-value-add-t35 : (t : ℕ) → read-value-lts.Need-add-t35 (read-value-knows t) (read-value-at t) read-value.Post
-read-value-add-t35 t c = omega (arith, c .before .before .before .before .before .before .before .before .before .before .before .before .before .pre .1, c .before .before .before .before .before .before .before .before .before .before .before .before .before .pre .1 .fits)
-
-read-value-add-t36 : (t : ℕ) → read-value-lts.Need-add-t36 (read-value-knows t) (read-value-at t) read-value.Post
-read-value-add-t36 t c = omega (arith, c .before .before .before .before .before .before .before .before .before .before .before .before .before .before .before .pre .1, c .before .before .before .before .before .before .before .before .before .before .before .before .before .before .before .pre .1 .fits)
+read-value-add-t35 t c = omega (arith, c .before .before .before .before .before .before .before .before .before .before .before .before .before .before .before .before .pre .1, c .before .before .before .before .before .before .before .before .before .before .before .before .before .before .before .before .pre .1 .fits)
 
 read-value-read-prototypes-requires : (t : ℕ) → read-value-lts.Need-read-prototypes-requires (read-value-knows t) (read-value-at t) read-value.Post
 read-value-read-prototypes-requires t c κs =
-    let F = (rw (c .before .before .before .before .before .before .before .before .enum-told .given .1) at (rw (c .before .before .before .before .before .before .before .before .before .before .before .value .given .1) at (c .before .before .before .before .before .before .before .before .before .before .before .before .before .find-value .ensures))) in (
-      omega (arith, c .before .before .before .before .before .before .before .before .before .before .before .before .before .before .before .before .pre .0, F .ahead, F .within),
+    let F = (rw (c .before .before .before .before .before .before .before .before .enum-told .given .1) at (rw (c .before .before .before .before .before .before .before .before .before .before .before .before .value .given .1) at (c .before .before .before .before .before .before .before .before .before .before .before .before .before .before .find-value .ensures))) in (
+      omega (arith, c .before .before .before .before .before .before .before .before .before .before .before .before .before .before .before .before .before .pre .0, F .ahead, F .within),
       record {
-        fits = record { short = c .before .before .before .before .before .before .before .before .before .before .before .before .before .before .before .before .pre .1 .fits .short; within = F .within; room = omega (arith, c .before .before .before .before .before .before .before .before .before .before .before .before .before .before .before .before .pre .1 .fits .room, c .before .before .before .before .before .before .put-path .kept .0) };
-        few = omega (arith, c .before .before .before .before .before .before .before .before .before .before .before .before .before .before .before .before .pre .1, F .ahead);
-        light = omega (arith, c .before .before .before .before .before .before .before .before .before .before .before .before .before .before .before .before .pre .1, F .ahead);
+        fits = record { short = c .before .before .before .before .before .before .before .before .before .before .before .before .before .before .before .before .before .pre .1 .fits .short; within = F .within; room = omega (arith, c .before .before .before .before .before .before .before .before .before .before .before .before .before .before .before .before .before .pre .1 .fits .room, c .before .before .before .before .before .before .put-path .kept .0) };
+        few = omega (arith, c .before .before .before .before .before .before .before .before .before .before .before .before .before .before .before .before .before .pre .1, F .ahead);
+        light = omega (arith, c .before .before .before .before .before .before .before .before .before .before .before .before .before .before .before .before .before .pre .1, F .ahead);
       },
     )
 
 read-value-put-bare-requires : (t : ℕ) → read-value-lts.Need-put-bare-requires (read-value-knows t) (read-value-at t) read-value.Post
-read-value-put-bare-requires t c κs = omega (arith, c .before .before .before .before .before .before .before .before .before .before .before .before .before .before .before .before .before .before .before .before .before .before .before .pre .1 .fits, c .before .before .before .before .before .before .before .before .before .before .before .before .before .put-path .kept .0, c .before .before .before .before .before .before .read-prototypes .kept .1 .1 .1 .0)
+read-value-put-bare-requires t c κs = omega (arith, c .before .before .before .before .before .before .before .before .before .before .before .before .before .before .before .before .before .before .before .before .before .before .before .before .pre .1 .fits, c .before .before .before .before .before .before .before .before .before .before .before .before .before .put-path .kept .0, c .before .before .before .before .before .before .read-prototypes .kept .1 .1 .1 .0)
 
-read-value-add-t44 : (t : ℕ) → read-value-lts.Need-add-t44 (read-value-knows t) (read-value-at t) read-value.Post
-read-value-add-t44 t c =
-    let F = (rw (c .before .before .before .before .before .before .before .before .before .before .before .before .before .before .before .before .before .before .before .enum-told .given .1) at (rw (c .before .before .before .before .before .before .before .before .before .before .before .before .before .before .before .before .before .before .before .before .before .before .value .given .1) at (c .before .before .before .before .before .before .before .before .before .before .before .before .before .before .before .before .before .before .before .before .before .before .before .before .find-value .ensures))) in
+read-value-add-t43 : (t : ℕ) → read-value-lts.Need-add-t43 (read-value-knows t) (read-value-at t) read-value.Post
+read-value-add-t43 t c =
+    let F = (rw (c .before .before .before .before .before .before .before .before .before .before .before .before .before .before .before .before .before .before .before .enum-told .given .1) at (rw (c .before .before .before .before .before .before .before .before .before .before .before .before .before .before .before .before .before .before .before .before .before .before .before .value .given .1) at (c .before .before .before .before .before .before .before .before .before .before .before .before .before .before .before .before .before .before .before .before .before .before .before .before .before .find-value .ensures))) in
     let Q = (rw (c .before .before .before .before .before .before .to2 .given .1) at (c .before .before .before .before .before .before .before .before .before .before .read-prototypes .ensures)) in
-    omega (arith, c .before .before .before .before .before .before .before .before .before .before .before .before .before .before .before .before .before .before .before .before .before .before .before .before .before .before .before .pre .1, c .before .before .before .before .before .before .before .before .before .before .before .before .before .before .before .before .before .before .before .before .before .before .before .before .before .before .before .pre .1 .fits, F .ahead, Q .ahead)
+    omega (arith, c .before .before .before .before .before .before .before .before .before .before .before .before .before .before .before .before .before .before .before .before .before .before .before .before .before .before .before .before .pre .1, c .before .before .before .before .before .before .before .before .before .before .before .before .before .before .before .before .before .before .before .before .before .before .before .before .before .before .before .before .pre .1 .fits, F .ahead, Q .ahead)
 
 read-value-same-length : (t : ℕ) → read-value-lts.Need-same-length (read-value-knows t) (read-value-at t) read-value.Post
 read-value-same-length t c = c .before .before .before .before .before .before .read-basic .kept .1 .1 .1 .1 .1 .0
 
 read-value-returns : (t : ℕ) → read-value-lts.Need-returns (read-value-knows t) (read-value-at t) read-value.Post
-read-value-returns t c = set-done _ _ _ _ _ _ _ (rw (c .before .before .before .before .before .before .before .before .before .value2 .given .1) at (rw (c .before .before .before .before .before .before .before .before .before .before .before .before .value .given .1) at (c .before .before .before .before .before .before .before .before .before .before .before .before .before .before .find-value .ensures))) _ _ _ (rw (c .before .before .to .given .1) at (c .before .before .before .before .before .before .read-basic .ensures)) (c .pass .ensures)
+read-value-returns t c = set-done _ _ _ _ _ _ _ (rw (c .before .before .before .before .before .before .before .before .before .value2 .given .1) at (rw (c .before .before .before .before .before .before .before .before .before .before .before .before .before .value .given .1) at (c .before .before .before .before .before .before .before .before .before .before .before .before .before .before .before .find-value .ensures))) _ _ _ (rw (c .before .before .before .before .before .before .before .before .before .before .before .moved .ensures) at (rw (c .before .before .to .given .1) at (c .before .before .before .before .before .before .read-basic .ensures))) (c .pass .ensures)
 
 read-value-same-length-2 : (t : ℕ) → read-value-lts.Need-same-length-2 (read-value-knows t) (read-value-at t) read-value.Post
 read-value-same-length-2 t c = c .before .before .before .before .before .read-basic .kept .1 .1 .1 .1 .1 .0
 
 read-value-returns-2 : (t : ℕ) → read-value-lts.Need-returns-2 (read-value-knows t) (read-value-at t) read-value.Post
-read-value-returns-2 t c = set-no _ _ _ _ _ _ _ (rw (c .before .before .before .before .before .before .before .before .value2 .given .1) at (rw (c .before .before .before .before .before .before .before .before .before .before .before .value .given .1) at (c .before .before .before .before .before .before .before .before .before .before .before .before .before .find-value .ensures))) _ _ _ (rw (c .before .number .given .1) at (c .before .before .before .before .before .read-basic .ensures))
+read-value-returns-2 t c = set-no _ _ _ _ _ _ _ (rw (c .before .before .before .before .before .before .before .before .value2 .given .1) at (rw (c .before .before .before .before .before .before .before .before .before .before .before .before .value .given .1) at (c .before .before .before .before .before .before .before .before .before .before .before .before .before .before .find-value .ensures))) _ _ _ (rw (c .before .before .before .before .before .before .before .before .before .before .moved .ensures) at (rw (c .before .number .given .1) at (c .before .before .before .before .before .read-basic .ensures)))
 
 read-value-same-length-3 : (t : ℕ) → read-value-lts.Need-same-length-3 (read-value-knows t) (read-value-at t) read-value.Post
 read-value-same-length-3 t c = c .before .before .read-link .kept .1 .1 .1 .1 .1 .0
 
 read-value-returns-3 : (t : ℕ) → read-value-lts.Need-returns-3 (read-value-knows t) (read-value-at t) read-value.Post
-read-value-returns-3 t c = link-done _ _ _ _ _ _ _ _ _ _ (rw (c .before .before .before .before .before .value3 .given .1) at (rw (c .before .before .before .before .before .before .before .before .value .given .1) at (c .before .before .before .before .before .before .before .before .before .before .find-value .ensures))) (c .before .before .read-link .ensures)
+read-value-returns-3 t c = link-done _ _ _ _ _ _ _ _ _ _ (rw (c .before .before .before .before .before .value3 .given .1) at (rw (c .before .before .before .before .before .before .before .before .before .value .given .1) at (c .before .before .before .before .before .before .before .before .before .before .before .find-value .ensures))) (rw (c .before .before .before .before .before .before .before .moved .ensures) at (c .before .before .read-link .ensures))
 
 read-value-same-length-4 : (t : ℕ) → read-value-lts.Need-same-length-4 (read-value-knows t) (read-value-at t) read-value.Post
 read-value-same-length-4 t c = (c .before .before .before .put-bare .kept .0) ∙ (c .before .before .before .before .before .before .before .before .before .before .read-prototypes .kept .1 .1 .1 .0) ∙ (c .before .before .before .before .before .before .before .before .before .before .before .before .before .before .before .before .before .put-path .kept .0)
 
 read-value-returns-4 : (t : ℕ) → read-value-lts.Need-returns-4 (read-value-knows t) (read-value-at t) read-value.Post
-read-value-returns-4 t c = extends-done _ _ _ _ _ _ (rw (c .before .before .before .before .before .before .before .before .before .before .before .before .before .before .before .before .before .before .before .enum-told .given .1) at (rw (c .before .before .before .before .before .before .before .before .before .before .before .before .before .before .before .before .before .before .before .before .before .before .value .given .1) at (c .before .before .before .before .before .before .before .before .before .before .before .before .before .before .before .before .before .before .before .before .before .before .before .before .find-value .ensures))) _ _ (c .before .before .before .before .before .before .before .before .before .before .before .before .before .before .before .before .before .put-path .ensures) _ _ (rw (c .before .before .before .before .before .before .to2 .given .1) at (c .before .before .before .before .before .before .before .before .before .before .read-prototypes .ensures)) (c .before .before .before .put-bare .ensures)
+read-value-returns-4 t c = extends-done _ _ _ _ _ _ (rw (c .before .before .before .before .before .before .before .before .before .before .before .before .before .before .before .before .before .before .before .enum-told .given .1) at (rw (c .before .before .before .before .before .before .before .before .before .before .before .before .before .before .before .before .before .before .before .before .before .before .before .value .given .1) at (c .before .before .before .before .before .before .before .before .before .before .before .before .before .before .before .before .before .before .before .before .before .before .before .before .before .find-value .ensures))) _ _ (c .before .before .before .before .before .before .before .before .before .before .before .before .before .before .before .before .before .put-path .ensures) _ _ (rw (c .before .before .before .before .before .before .to2 .given .1) at (c .before .before .before .before .before .before .before .before .before .before .read-prototypes .ensures)) (c .before .before .before .put-bare .ensures)
 
 read-value-same-length-5 : (t : ℕ) → read-value-lts.Need-same-length-5 (read-value-knows t) (read-value-at t) read-value.Post
 read-value-same-length-5 t c = (c .before .before .before .before .before .read-prototypes .kept .1 .1 .1 .0) ∙ (c .before .before .before .before .before .before .before .before .before .before .before .before .put-path .kept .0)
 
 read-value-returns-5 : (t : ℕ) → read-value-lts.Need-returns-5 (read-value-knows t) (read-value-at t) read-value.Post
-read-value-returns-5 t c = extends-no _ _ _ _ _ _ (rw (c .before .before .before .before .before .before .before .before .before .before .before .before .before .before .enum-told .given .1) at (rw (c .before .before .before .before .before .before .before .before .before .before .before .before .before .before .before .before .before .value .given .1) at (c .before .before .before .before .before .before .before .before .before .before .before .before .before .before .before .before .before .before .before .find-value .ensures))) _ _ (c .before .before .before .before .before .before .before .before .before .before .before .before .put-path .ensures) _ _ (rw (c .before .number2 .given .1) at (c .before .before .before .before .before .read-prototypes .ensures))
+read-value-returns-5 t c = extends-no _ _ _ _ _ _ (rw (c .before .before .before .before .before .before .before .before .before .before .before .before .before .before .enum-told .given .1) at (rw (c .before .before .before .before .before .before .before .before .before .before .before .before .before .before .before .before .before .before .value .given .1) at (c .before .before .before .before .before .before .before .before .before .before .before .before .before .before .before .before .before .before .before .before .find-value .ensures))) _ _ (c .before .before .before .before .before .before .before .before .before .before .before .before .put-path .ensures) _ _ (rw (c .before .number2 .given .1) at (c .before .before .before .before .before .read-prototypes .ensures))
 
 read-value-returns-6 : (t : ℕ) → read-value-lts.Need-returns-6 (read-value-knows t) (read-value-at t) read-value.Post
 read-value-returns-6 t c = value-no _ _ _ _ _ _ _ (rw (c .before .number3 .given .1) at (c .before .before .before .find-value .ensures))
@@ -479,6 +489,7 @@ pub +read-block+read-prototypes+read-statements+read-value-spec : {M : Type 1} �
     (read-prototypes-add-t26 t)
     (read-prototypes-follows-requires t)
     (λ c. search needs)
+    (read-prototypes-moved-requires t)
     (read-prototypes-loop-less t)
     (read-prototypes-loop-again t)
     (λ c. search needs)
@@ -493,6 +504,7 @@ pub +read-block+read-prototypes+read-statements+read-value-spec : {M : Type 1} �
     (λ c. search needs)
     (read-prototypes-follows-requires-2 t)
     (λ c. search needs)
+    (read-prototypes-moved-requires-2 t)
     (read-prototypes-loop-less-2 t)
     (read-prototypes-loop-again-2 t)
     (λ c. search needs)
@@ -533,6 +545,7 @@ pub +read-block+read-prototypes+read-statements+read-value-spec : {M : Type 1} �
     read-value.Post
     (read-value-find-value-requires t)
     (λ c. search needs)
+    (read-value-moved-requires t)
     (λ c. search needs)
     (read-value-read-basic-requires t)
     (λ c. search needs)
@@ -542,12 +555,12 @@ pub +read-block+read-prototypes+read-statements+read-value-spec : {M : Type 1} �
     (read-value-read-link-requires t)
     (λ c. search needs)
     (read-value-put-path-requires t)
+    (read-value-add-t34 t)
     (read-value-add-t35 t)
-    (read-value-add-t36 t)
     (read-value-read-prototypes-requires t)
     (λ c. search needs)
     (read-value-put-bare-requires t)
-    (read-value-add-t44 t)
+    (read-value-add-t43 t)
     (λ c. search needs)
     (λ c. search needs)
     (read-value-same-length t)

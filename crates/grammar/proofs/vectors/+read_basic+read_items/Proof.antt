@@ -17,6 +17,7 @@ use Rattle.grammar.proofs.vectors.read_items.Kinds as read-items-kinds
 use Rattle.grammar.proofs.vectors.+read_basic+read_items.Lts-read_items as read-items-lts
 use Rattle.grammar.proofs.basic.find_basic.Reads as find-basic-reads
 use Rattle.grammar.proofs.basic.lay.Reads as lay-reads
+use Rattle.grammar.proofs.cursor.moved.Reads as moved-reads
 use Rattle.grammar.proofs.cursor.pass.Reads as pass-reads
 use Rattle.grammar.proofs.token.follows.Reads as follows-reads
 use Rattle.grammar.proofs.vectors.put_own.Reads as put-own-reads
@@ -132,7 +133,7 @@ read-items-μ-loop src left work₀ item c₀ work c = length src - c .at
 
 -- what is known of the functions that `read_items` calls
 abbrev read-items-knows : ℕ → read-items-lts.Claims
-read-items-knows t = (find-basic-reads.Asked, find-basic-reads.Learnt, read-basic-below t, read-basic.Post, follows-reads.Asked, follows-reads.Learnt, pass-reads.Asked, pass-reads.Learnt)
+read-items-knows t = (find-basic-reads.Asked, find-basic-reads.Learnt, moved-reads.Asked, moved-reads.Learnt, read-basic-below t, read-basic.Post, follows-reads.Asked, follows-reads.Learnt, pass-reads.Asked, pass-reads.Learnt)
 
 read-items-loop-holds : (t : ℕ) → read-items-lts.Need-loop-holds (read-items-knows t) (read-items-at t) read-items.Post read-items-Inv-loop read-items-μ-loop
 read-items-loop-holds t c = record { fit = c .before .before .pre .1; on = omega arith; long = refl; onward = λ e r w. w }
@@ -140,59 +141,65 @@ read-items-loop-holds t c = record { fit = c .before .before .pre .1; on = omega
 read-items-find-basic-requires : (t : ℕ) → read-items-lts.Need-find-basic-requires (read-items-knows t) (read-items-at t) read-items.Post read-items-Inv-loop read-items-μ-loop
 read-items-find-basic-requires t c κs = c .loop .inv .fit .fits .within
 
+read-items-moved-requires : (t : ℕ) → read-items-lts.Need-moved-requires (read-items-knows t) (read-items-at t) read-items.Post read-items-Inv-loop read-items-μ-loop
+read-items-moved-requires t c κs = search needs
+
 read-items-read-basic-requires : (t : ℕ) → read-items-lts.Need-read-basic-requires (read-items-knows t) (read-items-at t) read-items.Post read-items-Inv-loop read-items-μ-loop
 read-items-read-basic-requires t c κs =
-    let B = (rw (c .before .before .basic .given .1) at (c .before .before .before .before .find-basic .ensures)) in
-    let F = c .before .before .before .before .before .loop .inv .fit in
-    (omega (arith, c .before .before .before .before .before .before .before .before .pre .0, B .ahead, B .within, c .before .before .before .before .before .loop .inv .on), record { fits = record { short = F .fits .short; within = B .within; room = F .fits .room }; few = omega (arith, F .few, B .ahead); light = omega (arith, F .light, B .light) })
+    let B = (rw (c .before .before .before .basic .given .1) at (c .before .before .before .before .before .find-basic .ensures)) in
+    let F = c .before .before .before .before .before .before .loop .inv .fit in
+    rw (c .before .moved .ensures) (omega (arith, c .before .before .before .before .before .before .before .before .before .pre .0, B .ahead, B .within, c .before .before .before .before .before .before .loop .inv .on), record { fits = record { short = F .fits .short; within = B .within; room = F .fits .room }; few = omega (arith, F .few, B .ahead); light = omega (arith, F .light, B .light) })
 
 read-items-follows-requires : (t : ℕ) → read-items-lts.Need-follows-requires (read-items-knows t) (read-items-at t) read-items.Post read-items-Inv-loop read-items-μ-loop
-read-items-follows-requires t c κs = let R = (rw (c .before .to .given .1) at (c .before .before .before .before .before .read-basic .ensures)) in R .ahead .within
+read-items-follows-requires t c κs = let R = (rw (c .before .before .before .before .before .before .before .moved .ensures) at (rw (c .before .to .given .1) at (c .before .before .before .before .before .read-basic .ensures))) in R .ahead .within
+
+read-items-moved-requires-2 : (t : ℕ) → read-items-lts.Need-moved-requires-2 (read-items-knows t) (read-items-at t) read-items.Post read-items-Inv-loop read-items-μ-loop
+read-items-moved-requires-2 t c κs = search needs
 
 read-items-loop-less : (t : ℕ) → read-items-lts.Need-loop-less (read-items-knows t) (read-items-at t) read-items.Post read-items-Inv-loop read-items-μ-loop
 read-items-loop-less t c =
-    let B = (rw (c .before .before .before .before .before .before .before .before .before .before .before .before .basic .given .1) at (c .before .before .before .before .before .before .before .before .before .before .before .before .before .before .find-basic .ensures)) in
-    let R = (rw (c .before .before .before .before .before .to .given .1) at (c .before .before .before .before .before .before .before .before .before .read-basic .ensures)) in
-    let M = (rw (c .before .more .given .1) at (c .before .before .before .follows .ensures)) in
-    omega (arith, M, R .ahead, B .ahead)
+    let B = (rw (c .before .before .before .before .before .before .before .before .before .before .before .before .before .before .basic .given .1) at (c .before .before .before .before .before .before .before .before .before .before .before .before .before .before .before .before .find-basic .ensures)) in
+    let R = (rw (c .before .before .before .before .before .before .before .before .before .before .before .before .moved .ensures) at (rw (c .before .before .before .before .before .before .to .given .1) at (c .before .before .before .before .before .before .before .before .before .before .read-basic .ensures))) in
+    let M = (rw (c .before .before .more .given .1) at (c .before .before .before .before .follows .ensures)) in
+    rw (c .moved2 .ensures) (omega (arith, M, R .ahead, B .ahead))
 
 read-items-loop-again : (t : ℕ) → read-items-lts.Need-loop-again (read-items-knows t) (read-items-at t) read-items.Post read-items-Inv-loop read-items-μ-loop
 read-items-loop-again t c =
-    let B = (rw (c .before .before .before .before .before .before .before .before .before .before .before .before .basic .given .1) at (c .before .before .before .before .before .before .before .before .before .before .before .before .before .before .find-basic .ensures)) in
-    let R = (rw (c .before .before .before .before .before .to .given .1) at (c .before .before .before .before .before .before .before .before .before .read-basic .ensures)) in
-    let M = (rw (c .before .more .given .1) at (c .before .before .before .follows .ensures)) in
-    let F = c .before .before .before .before .before .before .before .before .before .before .before .before .before .before .before .loop .inv .fit in
-    record {
+    let B = (rw (c .before .before .before .before .before .before .before .before .before .before .before .before .before .before .basic .given .1) at (c .before .before .before .before .before .before .before .before .before .before .before .before .before .before .before .before .find-basic .ensures)) in
+    let R = (rw (c .before .before .before .before .before .before .before .before .before .before .before .before .moved .ensures) at (rw (c .before .before .before .before .before .before .to .given .1) at (c .before .before .before .before .before .before .before .before .before .before .read-basic .ensures))) in
+    let M = (rw (c .before .before .more .given .1) at (c .before .before .before .before .follows .ensures)) in
+    let F = c .before .before .before .before .before .before .before .before .before .before .before .before .before .before .before .before .before .loop .inv .fit in
+    rw (c .moved2 .ensures) (record {
       fit = record {
-        fits = record { short = F .fits .short; within = M .within; room = omega (arith, F .fits .room, c .before .before .before .before .before .before .before .before .before .read-basic .kept .1 .1 .1 .1 .1 .0) };
+        fits = record { short = F .fits .short; within = M .within; room = omega (arith, F .fits .room, c .before .before .before .before .before .before .before .before .before .before .read-basic .kept .1 .1 .1 .1 .1 .0) };
         few = omega (arith, F .few, B .ahead, R .ahead, M);
         light = omega (arith, F .light, B .light, R .ahead, M);
       };
-      on = omega (arith, c .before .before .before .before .before .before .before .before .before .before .before .before .before .before .before .loop .inv .on, B .ahead, R .ahead, M);
-      long = (c .before .before .before .before .before .before .before .before .before .read-basic .kept .1 .1 .1 .1 .1 .0) ∙ c .before .before .before .before .before .before .before .before .before .before .before .before .before .before .before .loop .inv .long;
-      onward = λ e r I. c .before .before .before .before .before .before .before .before .before .before .before .before .before .before .before .loop .inv .onward e r (items-more _ _ _ _ _ _ B _ _ R _ _ _ r M I);
-    }
+      on = omega (arith, c .before .before .before .before .before .before .before .before .before .before .before .before .before .before .before .before .before .loop .inv .on, B .ahead, R .ahead, M);
+      long = (c .before .before .before .before .before .before .before .before .before .before .read-basic .kept .1 .1 .1 .1 .1 .0) ∙ c .before .before .before .before .before .before .before .before .before .before .before .before .before .before .before .before .before .loop .inv .long;
+      onward = λ e r I. c .before .before .before .before .before .before .before .before .before .before .before .before .before .before .before .before .before .loop .inv .onward e r (items-more _ _ _ _ _ _ B _ _ R _ _ _ r M I);
+    })
 
 read-items-pass-requires : (t : ℕ) → read-items-lts.Need-pass-requires (read-items-knows t) (read-items-at t) read-items.Post read-items-Inv-loop read-items-μ-loop
-read-items-pass-requires t c κs = let R = (rw (c .before .before .before .before .to .given .1) at (c .before .before .before .before .before .before .before .before .read-basic .ensures)) in R .ahead .within
+read-items-pass-requires t c κs = let R = (rw (c .before .before .before .before .before .before .before .before .before .before .moved .ensures) at (rw (c .before .before .before .before .to .given .1) at (c .before .before .before .before .before .before .before .before .read-basic .ensures))) in R .ahead .within
 
 read-items-same-length : (t : ℕ) → read-items-lts.Need-same-length (read-items-knows t) (read-items-at t) read-items.Post read-items-Inv-loop read-items-μ-loop
-read-items-same-length t c = (c .before .before .before .before .before .before .before .before .before .read-basic .kept .1 .1 .1 .1 .1 .0) ∙ c .before .before .before .before .before .before .before .before .before .before .before .before .before .before .before .loop .inv .long
+read-items-same-length t c = (c .before .before .before .before .before .before .before .before .before .read-basic .kept .1 .1 .1 .1 .1 .0) ∙ c .before .before .before .before .before .before .before .before .before .before .before .before .before .before .before .before .loop .inv .long
 
 read-items-returns : (t : ℕ) → read-items-lts.Need-returns (read-items-knows t) (read-items-at t) read-items.Post read-items-Inv-loop read-items-μ-loop
-read-items-returns t c = c .before .before .before .before .before .before .before .before .before .before .before .before .before .before .before .loop .inv .onward _ _ (items-last _ _ _ _ _ _ (rw (c .before .before .before .before .before .before .before .before .before .before .before .before .basic .given .1) at (c .before .before .before .before .before .before .before .before .before .before .before .before .before .before .find-basic .ensures)) _ _ (rw (c .before .before .before .before .before .to .given .1) at (c .before .before .before .before .before .before .before .before .before .read-basic .ensures)) (rw (c .before .enum-told .given .1) at (c .before .before .before .follows .ensures)) _ (c .pass .ensures))
+read-items-returns t c = c .before .before .before .before .before .before .before .before .before .before .before .before .before .before .before .before .loop .inv .onward _ _ (items-last _ _ _ _ _ _ (rw (c .before .before .before .before .before .before .before .before .before .before .before .before .before .basic .given .1) at (c .before .before .before .before .before .before .before .before .before .before .before .before .before .before .before .find-basic .ensures)) _ _ (rw (c .before .before .before .before .before .before .before .before .before .before .before .moved .ensures) at (rw (c .before .before .before .before .before .to .given .1) at (c .before .before .before .before .before .before .before .before .before .read-basic .ensures))) (rw (c .before .enum-told .given .1) at (c .before .before .before .follows .ensures)) _ (c .pass .ensures))
 
 read-items-same-length-2 : (t : ℕ) → read-items-lts.Need-same-length-2 (read-items-knows t) (read-items-at t) read-items.Post read-items-Inv-loop read-items-μ-loop
-read-items-same-length-2 t c = (c .before .before .before .before .before .before .before .before .before .read-basic .kept .1 .1 .1 .1 .1 .0) ∙ c .before .before .before .before .before .before .before .before .before .before .before .before .before .before .before .loop .inv .long
+read-items-same-length-2 t c = (c .before .before .before .before .before .before .before .before .before .read-basic .kept .1 .1 .1 .1 .1 .0) ∙ c .before .before .before .before .before .before .before .before .before .before .before .before .before .before .before .before .loop .inv .long
 
 read-items-returns-2 : (t : ℕ) → read-items-lts.Need-returns-2 (read-items-knows t) (read-items-at t) read-items.Post read-items-Inv-loop read-items-μ-loop
-read-items-returns-2 t c = c .before .before .before .before .before .before .before .before .before .before .before .before .before .before .before .loop .inv .onward _ _ (items-fault _ _ _ _ _ _ (rw (c .before .before .before .before .before .before .before .before .before .before .before .before .basic .given .1) at (c .before .before .before .before .before .before .before .before .before .before .before .before .before .before .find-basic .ensures)) _ _ (rw (c .before .before .before .before .before .to .given .1) at (c .before .before .before .before .before .before .before .before .before .read-basic .ensures)) _ _ (rw (c .before .number .given .1) at (c .before .before .before .follows .ensures)))
+read-items-returns-2 t c = c .before .before .before .before .before .before .before .before .before .before .before .before .before .before .before .before .loop .inv .onward _ _ (items-fault _ _ _ _ _ _ (rw (c .before .before .before .before .before .before .before .before .before .before .before .before .before .basic .given .1) at (c .before .before .before .before .before .before .before .before .before .before .before .before .before .before .before .find-basic .ensures)) _ _ (rw (c .before .before .before .before .before .before .before .before .before .before .before .moved .ensures) at (rw (c .before .before .before .before .before .to .given .1) at (c .before .before .before .before .before .before .before .before .before .read-basic .ensures))) _ _ (rw (c .before .number .given .1) at (c .before .before .before .follows .ensures)))
 
 read-items-same-length-3 : (t : ℕ) → read-items-lts.Need-same-length-3 (read-items-knows t) (read-items-at t) read-items.Post read-items-Inv-loop read-items-μ-loop
-read-items-same-length-3 t c = (c .before .before .before .before .before .read-basic .kept .1 .1 .1 .1 .1 .0) ∙ c .before .before .before .before .before .before .before .before .before .before .before .loop .inv .long
+read-items-same-length-3 t c = (c .before .before .before .before .before .read-basic .kept .1 .1 .1 .1 .1 .0) ∙ c .before .before .before .before .before .before .before .before .before .before .before .before .loop .inv .long
 
 read-items-returns-3 : (t : ℕ) → read-items-lts.Need-returns-3 (read-items-knows t) (read-items-at t) read-items.Post read-items-Inv-loop read-items-μ-loop
-read-items-returns-3 t c = c .before .before .before .before .before .before .before .before .before .before .before .loop .inv .onward _ _ (items-no _ _ _ _ _ _ (rw (c .before .before .before .before .before .before .before .before .basic .given .1) at (c .before .before .before .before .before .before .before .before .before .before .find-basic .ensures)) _ _ _ (rw (c .before .number2 .given .1) at (c .before .before .before .before .before .read-basic .ensures)))
+read-items-returns-3 t c = c .before .before .before .before .before .before .before .before .before .before .before .before .loop .inv .onward _ _ (items-no _ _ _ _ _ _ (rw (c .before .before .before .before .before .before .before .before .before .basic .given .1) at (c .before .before .before .before .before .before .before .before .before .before .before .find-basic .ensures)) _ _ _ (rw (c .before .before .before .before .before .before .before .moved .ensures) at (rw (c .before .number2 .given .1) at (c .before .before .before .before .before .read-basic .ensures))))
 
 read-items-same-length-4 : (t : ℕ) → read-items-lts.Need-same-length-4 (read-items-knows t) (read-items-at t) read-items.Post read-items-Inv-loop read-items-μ-loop
 read-items-same-length-4 t c = c .before .before .before .before .loop .inv .long
@@ -242,10 +249,12 @@ pub +read-basic+read-items-spec : {M : Type 1} → statement M
     (read-items-loop-holds t)
     (read-items-find-basic-requires t)
     (λ c. search needs)
+    (read-items-moved-requires t)
     (read-items-read-basic-requires t)
     (λ c. search needs)
     (read-items-follows-requires t)
     (λ c. search needs)
+    (read-items-moved-requires-2 t)
     (read-items-loop-less t)
     (read-items-loop-again t)
     (λ c. search needs)
