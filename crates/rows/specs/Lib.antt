@@ -1,0 +1,4 @@
+pub mod View
+pub mod Search
+pub mod Change
+pub mod Flat

@@ -1,0 +1,6 @@
+// What is looked for among rows.
+
+pub enum Found {
+    At(usize),
+    Nothing,
+}
