@@ -11,14 +11,14 @@ use Rattle.paper.specs.Store.{Store, entry, Value, lookup}
 use Rattle.paper.specs.Decoder.{Cursor}
 use Rattle.paper.specs.TableDecoder.{distinct, distinct-in, absent}
 use Rattle.paper.proofs.Laws.DecodeAt.{word}
-use Rattle.memory.specs.Memory.{part-at}
+use Rattle.memory.specs.Memory.{word-at, part-at}
 use Rattle.table.specs.declared.child.Found.{Found}
 use Rattle.table.specs.declared.child.Found.the-variants.{At, Nothing}
 use Rattle.table.specs.Walk.{value-here, entries-here}
 
--- the name of the record at i
+-- the name of the record at i; none where it lies outside
 unfoldable pub named-at : List ℕ → List ℕ → ℕ → List ℕ
-named-at recs text i = part-at text (word 2 recs (i + 4) + 1) (getD text (word 2 recs (i + 4)) 0)
+named-at recs text i = part-at text (word-at 2 recs (i + 4) + 1) (getD text (word-at 2 recs (i + 4)) 0)
 
 -- a span that leads to the next attribute, within what is left
 pub record Spanned (recs : List ℕ) (i m left : ℕ) : Type 0 where

@@ -3,8 +3,6 @@ mod child;
 mod lower;
 mod once;
 mod operation;
-mod row;
-mod text;
 mod walk;
 mod whole;
 

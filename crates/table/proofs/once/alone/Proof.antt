@@ -16,7 +16,7 @@ sub-find-child : tie.Need-sub-find-child
 sub-find-child c = omega (arith, c .before .before .pre)
 
 name-at-requires : tie.Need-name-at-requires
-name-at-requires c κs = c .before .before .pre .head
+name-at-requires c κs = search needs
 
 find-child-requires : tie.Need-find-child-requires
 find-child-requires c κs = search needs
