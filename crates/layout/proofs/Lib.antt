@@ -4,3 +4,4 @@ pub mod Forms
 pub mod Headers
 pub mod Heads
 pub mod Steps
+pub mod Ends

@@ -18,17 +18,12 @@ use Rattle.layout.specs.declared.walk.Walk.the-variants.{Walked}
 use Rattle.layout.specs.Form.{form-of, number-of, size-of, most-text}
 use Rattle.layout.specs.Header.{header-in, records-of, text-of, Sized}
 use Rattle.layout.specs.Walk.{WalkIs}
+use Rattle.layout.proofs.Ends.{ended-more, ended-text, ended-all}
 use Rattle.table.specs.Walk.{entries-here}
 use Rattle.table.specs.Child.{DistinctIs}
 use Rattle.table.specs.Whole.{is-table-of, store-in, whole-in}
 
 -- ---- the end
-
-empty-yes : (s : List ℕ) (i : ℕ) → length s ≤ i → empty (drop i s) ≡ true
-empty-yes s i h = rw (drop-of-length-le s h)
-
-empty-no : (s : List ℕ) (i : ℕ) → i < length s → empty (drop i s) ≡ false
-empty-no s i h = rw (drop-cons s i 0 h)
 
 pub whole-wrong : (recs text : List ℕ) (n : ℕ) → entries-here recs text 1 n 0 0 ≡ none → false ≡ whole-in recs text n
 unfolding whole-in store-in absent _>>=_
@@ -36,13 +31,13 @@ whole-wrong recs text n e = rw e
 
 module _ (recs text : List ℕ) (n i p : ℕ) (W : WalkIs (entries-here recs text 1 n 0 0) recs text (Walked i p)) where
   pub whole-more : i < length recs → false ≡ whole-in recs text n
-  unfolding whole-in store-in absent ended cursor _>>=_ require
-  whole-more h = rw (W .1, empty-no recs i h)
+  unfolding whole-in store-in absent _>>=_
+  whole-more h = rw (W .1, ended-more recs text i p h)
 
   module _ (l : length recs ≤ i) where
     pub whole-text : p < length text → false ≡ whole-in recs text n
-    unfolding whole-in store-in absent ended cursor _>>=_ require
-    whole-text h = rw (W .1, empty-yes recs i l, empty-no text p h)
+    unfolding whole-in store-in absent _>>=_
+    whole-text h = rw (W .1, ended-text recs text i p l h)
 
     all-found : (c : Bool) (s : Store) → c ≡ not (absent (require c >>= λ _. some s))
     unfolding absent _>>=_ require
@@ -50,10 +45,10 @@ module _ (recs text : List ℕ) (n i p : ℕ) (W : WalkIs (entries-here recs tex
     all-found false s = refl
 
     pub whole-all : (r : Bool) → length text ≤ p → DistinctIs recs text 0 n r → r ≡ whole-in recs text n
-    unfolding whole-in store-in ended cursor _>>=_ require
+    unfolding whole-in store-in _>>=_
     whole-all r h D =
         let e = D .told 1 0 (W .0) (cursor recs text i p) (record { is = W .1 }) in
-        e ∙ rw (W .1, empty-yes recs i l, empty-yes text p h) (all-found (distinct (W .0)) (W .0))
+        e ∙ rw (W .1, ended-all recs text i p l h) (all-found (distinct (W .0)) (W .0))
 
 -- ---- the bytes
 
