@@ -187,7 +187,7 @@ pub fn leaf(text: &[u8], kind: usize, value: u64, p: usize) -> Past
 pub fn name_here(text: &[u8], place: usize, p: usize) -> Past
     ensures { λ r. ⌜ FieldIs name-of (now (text .entry)) place p r ⌝ }
 {
-    if place != p {
+    if p != place {
         return Past::Bad;
     }
     name_end(text, p)
