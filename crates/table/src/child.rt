@@ -6,7 +6,7 @@ use memory::fits;
 use memory::part;
 ghost use mathlib.Core.Path.{_≡_};
 ghost use Rattle.paper.specs.Bytes.{same};
-ghost use Rattle.table.specs.Child.{named-at, SpanAt, FoundIs};
+ghost use Rattle.table.specs.Child.{named-at, span-in, found-in};
 
 pub enum Found {
     At(usize),
@@ -39,7 +39,7 @@ pub fn name_at<'a, 'b>(recs: &'b [u8], text: &'a [u8], i: usize) -> &'a [u8]
 
 // The span of a record, or 0 where it would lead outside.
 pub fn span_within(recs: &[u8], i: usize, left: usize) -> usize
-    ensures { λ r. ⌜ SpanAt (now (recs .entry)) i left r ⌝ }
+    ensures { λ r. ⌜ r ≡ span-in (now (recs .entry)) i left ⌝ }
 {
     if !fits(recs.len(), i, 16) {
         return 0;
@@ -57,8 +57,9 @@ pub fn span_within(recs: &[u8], i: usize, left: usize) -> usize
     span
 }
 
+// The attribute of this name among n records.
 pub fn find_child(recs: &[u8], text: &[u8], from: usize, n: usize, name: &[u8]) -> Found
-    ensures { λ r. ⌜ FoundIs (now (recs .entry)) (now (text .entry)) from n (now (name .entry)) r ⌝ }
+    ensures { λ r. ⌜ r ≡ found-in (now (recs .entry)) (now (text .entry)) from n (now (name .entry)) ⌝ }
 {
     let mut i = from;
     let mut left = n;

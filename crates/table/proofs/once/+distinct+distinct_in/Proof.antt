@@ -8,7 +8,7 @@ use mathlib.Core.Bool.{Bool, true, false}
 use borrow.Author.Tests.{not-true, not-false}
 use Rattle.memory.proofs.Laws.{word-in}
 use Rattle.table.specs.Child.{DistinctIs}
-use Rattle.table.proofs.Children.{distinct-end, distinct-stuck, distinct-twice, distinct-below as distinct-inner, distinct-more, distinct-basic, distinct-component}
+use Rattle.table.proofs.Children.{span-at-of, distinct-end, distinct-stuck, distinct-twice, distinct-below as distinct-inner, distinct-more, distinct-basic, distinct-component}
 use borrow.Author.Needs.{needs}
 use Prim.Native.Nat.{ℕ, _<_}
 use borrow.Fn.Kinds.{In}
@@ -63,34 +63,34 @@ distinct-span-within-requires : (t : ℕ) → distinct-lts.Need-span-within-requ
 distinct-span-within-requires t c κs = search needs
 
 distinct-returns : (t : ℕ) → distinct-lts.Need-returns (distinct-knows t) (distinct-at t) distinct.Post distinct-Inv-loop distinct-μ-loop
-distinct-returns t c = let l = c .before .before .before .loop in l .inv .1 false (distinct-stuck (c .before .before .before .before .before .before .args .recs .now) (c .before .before .before .before .before .before .args .text .now) (l .i) (l .left) (record { byte = λ k. omega (arith, c .before .before .before .before .before .shared-slice-known .given k) }) (omega arith) _ (c .before .span-within .ensures) (c .if1 .taken))
+distinct-returns t c = let l = c .before .before .before .loop in l .inv .1 false (distinct-stuck (c .before .before .before .before .before .before .args .recs .now) (c .before .before .before .before .before .before .args .text .now) (l .i) (l .left) (record { byte = λ k. omega (arith, c .before .before .before .before .before .shared-slice-known .given k) }) (omega arith) _ (span-at-of _ _ _ _ (c .before .span-within .ensures)) (c .if1 .taken))
 
 distinct-alone-requires : (t : ℕ) → distinct-lts.Need-alone-requires (distinct-knows t) (distinct-at t) distinct.Post distinct-Inv-loop distinct-μ-loop
-distinct-alone-requires t c κs = c .before .span-within .ensures .good (c .if1 .left)
+distinct-alone-requires t c κs = span-at-of _ _ _ _ (c .before .span-within .ensures) .good (c .if1 .left)
 
 distinct-returns-2 : (t : ℕ) → distinct-lts.Need-returns-2 (distinct-knows t) (distinct-at t) distinct.Post distinct-Inv-loop distinct-μ-loop
-distinct-returns-2 t c = let l = c .before .before .before .before .before .loop in l .inv .1 false (distinct-twice (c .before .before .before .before .before .before .before .before .args .recs .now) (c .before .before .before .before .before .before .before .before .args .text .now) (l .i) (l .left) (record { byte = λ k. omega (arith, c .before .before .before .before .before .before .before .shared-slice-known .given k) }) (omega arith) _ (c .before .before .before .span-within .ensures .good (c .before .before .if1 .left)) (rw (not-true (c .before .alone .result) (c .if2 .taken)) at (c .before .alone .ensures)))
+distinct-returns-2 t c = let l = c .before .before .before .before .before .loop in l .inv .1 false (distinct-twice (c .before .before .before .before .before .before .before .before .args .recs .now) (c .before .before .before .before .before .before .before .before .args .text .now) (l .i) (l .left) (record { byte = λ k. omega (arith, c .before .before .before .before .before .before .before .shared-slice-known .given k) }) (omega arith) _ (span-at-of _ _ _ _ (c .before .before .before .span-within .ensures) .good (c .before .before .if1 .left)) (rw (not-true (c .before .alone .result) (c .if2 .taken)) at (c .before .alone .ensures)))
 
 distinct-distinct-in-requires : (t : ℕ) → distinct-lts.Need-distinct-in-requires (distinct-knows t) (distinct-at t) distinct.Post distinct-Inv-loop distinct-μ-loop
-distinct-distinct-in-requires t c κs = let S = c .before .before .before .span-within .ensures .good (c .before .before .if1 .left) in (omega (arith, c .before .before .before .before .before .before .before .before .pre .0), record { head = S .head; some = S .some; few = le-refl _; within = S .within; is = S .is })
+distinct-distinct-in-requires t c κs = let S = span-at-of _ _ _ _ (c .before .before .before .span-within .ensures) .good (c .before .before .if1 .left) in (omega (arith, c .before .before .before .before .before .before .before .before .pre .0), record { head = S .head; some = S .some; few = le-refl _; within = S .within; is = S .is })
 
 distinct-returns-3 : (t : ℕ) → distinct-lts.Need-returns-3 (distinct-knows t) (distinct-at t) distinct.Post distinct-Inv-loop distinct-μ-loop
-distinct-returns-3 t c = let l = c .before .before .before .before .before .before .before .loop in l .inv .1 false (distinct-inner (c .before .before .before .before .before .before .before .before .before .before .args .recs .now) (c .before .before .before .before .before .before .before .before .before .before .args .text .now) (l .i) (l .left) (record { byte = λ k. omega (arith, c .before .before .before .before .before .before .before .before .before .shared-slice-known .given k) }) (omega arith) _ (c .before .before .before .before .before .span-within .ensures .good (c .before .before .before .before .if1 .left)) (rw (not-true (c .before .distinct-in .result) (c .if3 .taken)) at (c .before .distinct-in .ensures)))
+distinct-returns-3 t c = let l = c .before .before .before .before .before .before .before .loop in l .inv .1 false (distinct-inner (c .before .before .before .before .before .before .before .before .before .before .args .recs .now) (c .before .before .before .before .before .before .before .before .before .before .args .text .now) (l .i) (l .left) (record { byte = λ k. omega (arith, c .before .before .before .before .before .before .before .before .before .shared-slice-known .given k) }) (omega arith) _ (span-at-of _ _ _ _ (c .before .before .before .before .before .span-within .ensures) .good (c .before .before .before .before .if1 .left)) (rw (not-true (c .before .distinct-in .result) (c .if3 .taken)) at (c .before .distinct-in .ensures)))
 
 distinct-mul-i : (t : ℕ) → distinct-lts.Need-mul-i (distinct-knows t) (distinct-at t) distinct.Post distinct-Inv-loop distinct-μ-loop
-distinct-mul-i t c = let S = c .before .before .before .before .before .span-within .ensures .good (c .before .before .before .before .if1 .left) in omega arith
+distinct-mul-i t c = let S = span-at-of _ _ _ _ (c .before .before .before .before .before .span-within .ensures) .good (c .before .before .before .before .if1 .left) in omega arith
 
 distinct-add-i : (t : ℕ) → distinct-lts.Need-add-i (distinct-knows t) (distinct-at t) distinct.Post distinct-Inv-loop distinct-μ-loop
-distinct-add-i t c = let S = c .before .before .before .before .before .span-within .ensures .good (c .before .before .before .before .if1 .left) in omega arith
+distinct-add-i t c = let S = span-at-of _ _ _ _ (c .before .before .before .before .before .span-within .ensures) .good (c .before .before .before .before .if1 .left) in omega arith
 
 distinct-sub-left : (t : ℕ) → distinct-lts.Need-sub-left (distinct-knows t) (distinct-at t) distinct.Post distinct-Inv-loop distinct-μ-loop
-distinct-sub-left t c = let S = c .before .before .before .before .before .span-within .ensures .good (c .before .before .before .before .if1 .left) in omega arith
+distinct-sub-left t c = let S = span-at-of _ _ _ _ (c .before .before .before .before .before .span-within .ensures) .good (c .before .before .before .before .if1 .left) in omega arith
 
 distinct-loop-less : (t : ℕ) → distinct-lts.Need-loop-less (distinct-knows t) (distinct-at t) distinct.Post distinct-Inv-loop distinct-μ-loop
-distinct-loop-less t c = let S = c .before .before .before .before .before .span-within .ensures .good (c .before .before .before .before .if1 .left) in omega arith
+distinct-loop-less t c = let S = span-at-of _ _ _ _ (c .before .before .before .before .before .span-within .ensures) .good (c .before .before .before .before .if1 .left) in omega arith
 
 distinct-loop-again : (t : ℕ) → distinct-lts.Need-loop-again (distinct-knows t) (distinct-at t) distinct.Post distinct-Inv-loop distinct-μ-loop
-distinct-loop-again t c = let l = c .before .before .before .before .before .before .before .loop in let S = c .before .before .before .before .before .span-within .ensures .good (c .before .before .before .before .if1 .left) in (omega arith, λ r h. l .inv .1 r (distinct-more (c .before .before .before .before .before .before .before .before .before .before .args .recs .now) (c .before .before .before .before .before .before .before .before .before .before .args .text .now) (l .i) (l .left) (record { byte = λ k. omega (arith, c .before .before .before .before .before .before .before .before .before .shared-slice-known .given k) }) (omega arith) _ S r (rw (not-false (c .before .before .before .alone .result) (c .before .before .if2 .left)) at (c .before .before .before .alone .ensures)) (rw (not-false (c .before .distinct-in .result) (c .if3 .left)) at (c .before .distinct-in .ensures)) h))
+distinct-loop-again t c = let l = c .before .before .before .before .before .before .before .loop in let S = span-at-of _ _ _ _ (c .before .before .before .before .before .span-within .ensures) .good (c .before .before .before .before .if1 .left) in (omega arith, λ r h. l .inv .1 r (distinct-more (c .before .before .before .before .before .before .before .before .before .before .args .recs .now) (c .before .before .before .before .before .before .before .before .before .before .args .text .now) (l .i) (l .left) (record { byte = λ k. omega (arith, c .before .before .before .before .before .before .before .before .before .shared-slice-known .given k) }) (omega arith) _ S r (rw (not-false (c .before .before .before .alone .result) (c .before .before .if2 .left)) at (c .before .before .before .alone .ensures)) (rw (not-false (c .before .distinct-in .result) (c .if3 .left)) at (c .before .distinct-in .ensures)) h))
 
 distinct-returns-4 : (t : ℕ) → distinct-lts.Need-returns-4 (distinct-knows t) (distinct-at t) distinct.Post distinct-Inv-loop distinct-μ-loop
 distinct-returns-4 t c = let l = c .before .loop in l .inv .1 true (distinct-end (c .before .before .before .before .args .recs .now) (c .before .before .before .before .args .text .now) (l .i) (l .left) (omega arith))
