@@ -25,6 +25,11 @@ abbrev pub WalkIs : {A : Type 0} → Option (A × Cursor) → List ℕ → List 
 WalkIs {A} o recs text (Walked i p) = (a : A) × (o ≡ some (a, cursor recs text i p))
 WalkIs o recs text Wrong = o ≡ none
 
+-- it stands no further than the records end, so that the place is the only one
+abbrev pub Inside : List ℕ → Walk → Type 0
+Inside recs (Walked i p) = i ≤ length recs
+Inside recs Wrong = Unit {0}
+
 -- the readers, at places
 unfoldable pub basic-here : Form → List ℕ → List ℕ → ℕ → ℕ → ℕ → ℕ → Option (Basic × Cursor)
 basic-here form recs text d m i p = record-at (form-of form .width) (cursor recs text i p) >>= λ x. basic-from (form-of form) d (form-of form .kind-in (x .0)) m (x .0 .value) (x .1)

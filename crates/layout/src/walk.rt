@@ -10,8 +10,9 @@ use crate::text::Past;
 use crate::text::leaf;
 use memory::fits;
 ghost use mathlib.Core.Path.{_≡_};
-ghost use Prim.Native.Nat.{_-_};
-ghost use Rattle.layout.specs.Walk.{heads, WalkIs, basic-here, elements-here};
+ghost use Prim.Native.Nat.{_-_, _≤_};
+ghost use lib.ListN.{length};
+ghost use Rattle.layout.specs.Walk.{heads, WalkIs, Inside, basic-here, elements-here};
 
 pub enum Walk {
     Walked { record: usize, text: usize },
@@ -51,7 +52,7 @@ pub fn basic(
     i: usize,
     p: usize,
 ) -> Walk
-    ensures { λ r. ⌜ WalkIs (basic-here form (now (recs .entry)) (now (text .entry)) depth span i p) (now (recs .entry)) (now (text .entry)) r ⌝ }
+    ensures { λ r. ⌜ WalkIs (basic-here form (now (recs .entry)) (now (text .entry)) depth span i p) (now (recs .entry)) (now (text .entry)) r × Inside (now (recs .entry)) r ⌝ }
 {
     let bytes = size(form);
     if !fits(recs.len(), i, bytes) {
@@ -90,7 +91,8 @@ fn elements(
     first: usize,
     from: usize,
 ) -> Walk
-    ensures { λ r. ⌜ WalkIs (elements-here form (now (recs .entry)) (now (text .entry)) depth n first from) (now (recs .entry)) (now (text .entry)) r ⌝ }
+    requires { ⌜ first ≤ length (now recs) ⌝ }
+    ensures { λ r. ⌜ WalkIs (elements-here form (now (recs .entry)) (now (text .entry)) depth n first from) (now (recs .entry)) (now (text .entry)) r × Inside (now (recs .entry)) r ⌝ }
 {
     let mut i = first;
     let mut p = from;

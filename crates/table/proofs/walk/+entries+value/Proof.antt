@@ -117,7 +117,7 @@ value-basic-requires : (t : ℕ) → value-lts.Need-basic-requires (value-knows 
 value-basic-requires t c κs = search needs
 
 value-returns : (t : ℕ) → value-lts.Need-returns (value-knows t) (value-at t) value.Post
-value-returns t c = value-basic (c .before .before .before .before .before .args .recs .now) (c .before .before .before .before .before .args .text .now) (c .before .before .before .before .before .args .depth) (c .before .before .before .before .before .args .span) (c .before .before .before .before .before .args .i) (c .before .before .before .before .before .args .p) (record { byte = λ k. omega (arith, c .before .before .before .before .shared-slice-known .given k) }) (c .before .before .before .before .before .pre .1 .within) (c .before .before .before .before .before .pre .1 .spanned) _ (c .before .before .kind-at .ensures .0) (c .basic .result) (c .before .if1 .taken) (c .basic .ensures)
+value-returns t c = value-basic (c .before .before .before .before .before .args .recs .now) (c .before .before .before .before .before .args .text .now) (c .before .before .before .before .before .args .depth) (c .before .before .before .before .before .args .span) (c .before .before .before .before .before .args .i) (c .before .before .before .before .before .args .p) (record { byte = λ k. omega (arith, c .before .before .before .before .shared-slice-known .given k) }) (c .before .before .before .before .before .pre .1 .within) (c .before .before .before .before .before .pre .1 .spanned) _ (c .before .before .kind-at .ensures .0) (c .basic .result) (c .before .if1 .taken) (c .basic .ensures .0)
 
 value-value-at-requires : (t : ℕ) → value-lts.Need-value-at-requires (value-knows t) (value-at t) value.Post
 value-value-at-requires t c κs = search needs
