@@ -4,15 +4,17 @@ use native.Mathlib.Omega.{arith}
 use mathlib.Core.Path.{_≡_, refl, sym, _∙_, ap}
 use mathlib.Core.Bool.{Bool, true, false, _&&_}
 use mathlib.Core.List.{List}
+use mathlib.Core.Logic.{⊎-elim}
 use mathlib.Core.Option.{Option, none, some}
 use lib.ListN.{length}
 use lib.Dec.{leb}
-use borrow.Author.Tests.{leb-true, leb-false, le-leb, lt-leb}
+use borrow.Author.Tests.{leb-true, le-leb, lt-leb}
 use Rattle.paper.specs.Maybe.{_>>=_, require}
 use Rattle.paper.specs.Syntax.{_∷ⱽ_}
 use Rattle.paper.specs.Decoder.{record-at}
 use Rattle.paper.proofs.Laws.DecodeAt.{Bytes, word, raw-at, cursor, record-here, record-short}
 use Rattle.paper.proofs.Laws.DecodeFree.{basic-from, elements-from, element-body, elements-some}
+use Rattle.memory.proofs.Laws.{fit}
 use Rattle.layout.specs.declared.form.Form.{Form}
 use Rattle.layout.specs.Form.{form-of, size-of, fields, fits-in}
 use Rattle.layout.specs.Walk.{heads, basic-here, elements-here}
@@ -26,7 +28,7 @@ pub record Head (form : Form) (recs : List ℕ) (i d n : ℕ) : Type 0 where
   pub some : 1 ≤ word 2 recs (i + 6)
   pub few : word 2 recs (i + 6) ≤ n
 
-and-true : (a b : Bool) → (a && b) ≡ true → (a ≡ true) × (b ≡ true)
+pub and-true : (a b : Bool) → (a && b) ≡ true → (a ≡ true) × (b ≡ true)
 and-true true b e = (refl, e)
 and-true false b e = let z : _≡_ {A = ℕ} 0 1 = cc in absurd (omega arith)
 
@@ -88,13 +90,6 @@ module _ (form : Form) (recs text : List ℕ) (i p : ℕ) (b : Bytes recs) where
   unfolding basic-here raw-at _>>=_
   basic-inside d m h = rw (record-inside h)
 
-  pub by-place : (P : Type 0) → (i + size-of form ≤ length recs → P) → (length recs < i + size-of form → P) → P
-  by-place P f g = case (leb (i + size-of form) (length recs)) refl
-    where
-      case : (t : Bool) → leb (i + size-of form) (length recs) ≡ t → P
-      case true e = f (leb-true _ _ e)
-      case false e = g (leb-false _ _ e)
-
 -- a node whose head is wrong, though it lies within
 pub headless : (form : Form) (recs : List ℕ) (i d n : ℕ) → i + size-of form ≤ length recs → heads form recs i d n ≡ false → (leb d 32 && (leb 1 (word 2 recs (i + 6)) && leb (word 2 recs (i + 6)) n)) ≡ false
 unfolding heads
@@ -117,9 +112,10 @@ module _ (form : Form) (recs text : List ℕ) (i p d : ℕ) (b : Bytes recs) whe
   elements-headless zero l h = absurd (omega arith)
   elements-headless (suc k) l h =
       elements-some (form-of form) d k (cursor recs text i p)
-      ∙ by-place form recs text i p b _
+      ∙ ⊎-elim
       (λ w. goes _ (record-inside form recs text i p b w) (stops (leb d 32) _ (leb 1 (word 2 recs (i + 6))) (leb (word 2 recs (i + 6)) (suc k)) _ (headless form recs i d (suc k) w h)))
       (λ w. stop _ (record-outside form recs text i p b w))
+      (fit (i + size-of form) (length recs))
 
   fits-is : {t : Bool} → i + size-of form ≤ length recs → fits-in form recs i d ≡ t → form-of form .fits d (raw-at (form-of form .width) recs i) ≡ t
   unfolding fits-in size-of

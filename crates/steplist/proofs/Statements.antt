@@ -10,7 +10,7 @@ use mathlib.Core.Logic.{_⊎_, inl, inr, ⊎-elim}
 use mathlib.Core.Option.{Option, none, some}
 use lib.ListN.{length, length-drop}
 use lib.Dec.{leb, ltb, eqb}
-use borrow.Author.Tests.{ltb-true, ltb-false, leb-true, leb-false, lt-ltb, le-ltb, le-leb, eq-eqb, ne-eqb}
+use borrow.Author.Tests.{leb-true, lt-ltb, le-ltb, le-leb, eq-eqb, ne-eqb}
 use Rattle.paper.specs.Bytes.{if_then_else_}
 use Rattle.paper.specs.Maybe.{_>>=_, require}
 use Rattle.paper.specs.Syntax.{Block, εᴮ, _∷ᴮ_, assign, Value, Prototypes, εᴾ, block}
@@ -19,7 +19,7 @@ use Rattle.paper.specs.StepDecoder.{plain, bare, stops}
 use Rattle.paper.proofs.Laws.DecodeAt.{Bytes, word, raw-at, cursor, record-here, record-short}
 use Rattle.paper.proofs.Laws.DecodeFree.{statements-from, value-from, prototypes-from, statement-body, statements-is, prototype-body, prototypes-is, statements-left, value-left}
 use Rattle.memory.specs.Memory.{word-at}
-use Rattle.memory.proofs.Laws.{word-in}
+use Rattle.memory.proofs.Laws.{fit, word-in}
 use Rattle.layout.specs.declared.text.Past.the-variants.{At, Bad}
 use Rattle.layout.specs.declared.walk.Walk.{Walk}
 use Rattle.layout.specs.declared.walk.Walk.the-variants.{Walked, Wrong}
@@ -28,6 +28,7 @@ use Rattle.layout.specs.Text.{FieldIs}
 use Rattle.layout.specs.Walk.{WalkIs}
 use Rattle.layout.proofs.Ends.{empty-yes}
 use Rattle.layout.proofs.Forms.{fields-in}
+use Rattle.layout.proofs.Heads.{and-true}
 use Rattle.layout.proofs.Steps.{onto}
 use Rattle.steplist.specs.Record.{StopsIs, opens-at, ClosesIs}
 use Rattle.steplist.specs.Walk.{WalkOn, statement-at, take-at, block-at, statements-here, statement-here, value-here, prototypes-here, take-here, prototype-here}
@@ -121,12 +122,11 @@ module _ (recs text : List ℕ) (d i p : ℕ) where
 
 pub closed-inside : (recs : List ℕ) (i step : ℕ) → Bytes recs → ClosesIs recs i step true → i + 20 ≤ length recs
 unfolding _>>=_ require
-closed-inside recs i step b C = case (leb (i + 20) (length recs)) refl
+closed-inside recs i step b C = ⊎-elim (λ h. h) cut (fit (i + 20) (length recs))
   where
-    case : (t : Bool) → leb (i + 20) (length recs) ≡ t → i + 20 ≤ length recs
-    case true e = leb-true _ _ e
-    case false e =
-        let s = record-short 4 recs recs i 0 b (leb-false _ _ e) in
+    cut : length recs < i + 20 → i + 20 ≤ length recs
+    cut h =
+        let s = record-short 4 recs recs i 0 b h in
         let c = rw s at (C recs 0) in
         let z : _≡_ {A = ℕ} 0 1 = cc in absurd (omega arith)
 
@@ -185,10 +185,6 @@ module _ (recs text : List ℕ) (d i p : ℕ) (b : Bytes recs) where
   at = cursor recs text i p
 
   module _ (O : opens-at recs i ≡ true) where
-    and-true : (a c : Bool) → (a && c) ≡ true → (a ≡ true) × (c ≡ true)
-    and-true true c e = (refl, e)
-    and-true false c e = let z : _≡_ {A = ℕ} 0 1 = cc in absurd (omega arith)
-
     pub opens-inside : i + 20 ≤ length recs
     unfolding opens-at
     opens-inside = leb-true _ _ (and-true (leb (i + 20) (length recs)) _ O .0)
@@ -252,11 +248,7 @@ module _ (recs text : List ℕ) (d i p : ℕ) (b : Bytes recs) where
     inside w = let e = steps w in rw (record-here 4 recs text i p b w, e .0, e .1) (sym (assoc (bare 5 (raw-at 4 recs i)) _ _))
 
     shut : prototypes-here recs text d i p ≡ closing
-    shut = prototypes-is d at ∙ case (leb (i + 20) (length recs)) refl
-      where
-        case : (t : Bool) → leb (i + 20) (length recs) ≡ t → prototype-body statements-from prototypes-from d at ≡ closing
-        case true e = inside (leb-true _ _ e)
-        case false e = outside (leb-false _ _ e)
+    shut = prototypes-is d at ∙ ⊎-elim inside outside (fit (i + 20) (length recs))
 
     pub prototypes-unclosed : ClosesIs recs i 5 false → prototypes-here recs text d i p ≡ none
     unfolding _>>=_ require
@@ -269,11 +261,10 @@ module _ (recs text : List ℕ) (d i p : ℕ) (b : Bytes recs) where
 -- where statements go on, records are left
 pub stopped : (recs : List ℕ) (i : ℕ) → StopsIs recs i false → i < length recs
 unfolding stops cursor
-stopped recs i S = case (ltb i (length recs)) refl
+stopped recs i S = ⊎-elim ended (λ h. h) (fit (length recs) i)
   where
-    case : (t : Bool) → ltb i (length recs) ≡ t → i < length recs
-    case true e = ltb-true _ _ e
-    case false e =
-        let s = empty-yes recs i (ltb-false _ _ e) in
+    ended : length recs ≤ i → i < length recs
+    ended h =
+        let s = empty-yes recs i h in
         let c = rw s at (S recs 0) in
         let z : _≡_ {A = ℕ} 0 1 = cc in absurd (omega arith)

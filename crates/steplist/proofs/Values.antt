@@ -9,8 +9,8 @@ use mathlib.Core.List.{List}
 use mathlib.Core.Logic.{_⊎_, inl, inr, ⊎-elim}
 use mathlib.Core.Option.{Option, none, some}
 use lib.ListN.{length, length-drop}
-use lib.Dec.{leb, eqb}
-use borrow.Author.Tests.{leb-true, leb-false, le-leb, lt-leb, eq-eqb, ne-eqb}
+use lib.Dec.{eqb}
+use borrow.Author.Tests.{le-leb, lt-leb, eq-eqb, ne-eqb}
 use Rattle.paper.specs.Bytes.{if_then_else_}
 use Rattle.paper.specs.Maybe.{_>>=_, require}
 use Rattle.paper.specs.Syntax.{Value, basic, link, extends, Prototypes, εᴾ, named, block}
@@ -21,7 +21,7 @@ use Rattle.paper.proofs.Laws.Found.{Found, nothing, found, found-bind, found-re
 use Rattle.paper.proofs.Laws.DecodeAt.{Bytes, word, raw-at, cursor, record-here, record-short}
 use Rattle.paper.proofs.Laws.DecodeFree.{basic-from, statements-from, prototypes-from, value-body, value-is, prototype-body, prototypes-is}
 use Rattle.memory.specs.Memory.{word-at}
-use Rattle.memory.proofs.Laws.{word-in}
+use Rattle.memory.proofs.Laws.{fit, word-in}
 use Rattle.layout.specs.declared.form.Form.the-variants.{Steps}
 use Rattle.layout.specs.declared.text.Past.the-variants.{At, Bad}
 use Rattle.layout.specs.declared.walk.Walk.{Walk}
@@ -45,23 +45,17 @@ abbrev Some : Prototypes × Cursor → Type 0
 Some y = some-prototype (y .0) ≡ true
 
 module _ (recs text : List ℕ) (d j p : ℕ) (b : Bytes recs) (t : ℕ) (e : t ≡ word-at 2 recs j) where
-  by-place : (P : Type 0) → (j + 20 ≤ length recs → P) → (length recs < j + 20 → P) → P
-  by-place P f g = case (leb (j + 20) (length recs)) refl
-    where
-      case : (t : Bool) → leb (j + 20) (length recs) ≡ t → P
-      case true e = f (leb-true _ _ e)
-      case false e = g (leb-false _ _ e)
-
   -- a done: no prototype is found, or none at all
   pub none-first : t ≡ 5 → (prototypes-from d (cursor recs text j p) ≡ none) ⊎ ((c : Cursor) × (prototypes-from d (cursor recs text j p) ≡ some (εᴾ, c)))
   unfolding prototype-body if_then_else_ raw-at _>>=_
   none-first f =
-      by-place _
+      ⊎-elim
       (λ w.
       let g : word 2 recs j ≡ 5 = sym (e ∙ word-in 2 recs j (omega arith)) ∙ f in
       let q : prototypes-from d (cursor recs text j p) ≡ bare 5 (raw-at 4 recs j) >>= λ _. some (εᴾ, cursor recs text (j + 20) p) = prototypes-is d (cursor recs text j p) ∙ rw (record-here 4 recs text j p b w, g) in
       either (bare 5 (raw-at 4 recs j)) q)
       (λ w. inl (prototypes-is d (cursor recs text j p) ∙ rw (record-short 4 recs text j p b w)))
+      (fit (j + 20) (length recs))
     where
       either : (m : Option (Unit {0})) → prototypes-from d (cursor recs text j p) ≡ m >>= (λ _. some (εᴾ, cursor recs text (j + 20) p))
           → (prototypes-from d (cursor recs text j p) ≡ none) ⊎ ((c : Cursor) × (prototypes-from d (cursor recs text j p) ≡ some (εᴾ, c)))
@@ -95,7 +89,7 @@ module _ (recs text : List ℕ) (d j p : ℕ) (b : Bytes recs) (t : ℕ) (e : t 
 
     -- no done: what is found begins with a prototype
     pub some-first : Found Some (prototypes-from d (cursor recs text j p))
-    some-first = by-place _ inside (λ w. rw (prototypes-is d (cursor recs text j p)) (outside w))
+    some-first = ⊎-elim inside (λ w. rw (prototypes-is d (cursor recs text j p)) (outside w)) (fit (j + 20) (length recs))
 
 -- ---- values
 

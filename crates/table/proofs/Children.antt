@@ -19,6 +19,7 @@ use Rattle.paper.specs.Decoder.{Cursor}
 use Rattle.paper.specs.TableDecoder.{in-table, absent, distinct}
 use Rattle.paper.proofs.Laws.DecodeAt.{Bytes, word, raw-at, cursor}
 use Rattle.paper.proofs.Laws.DecodeFree.{basic-from, entries-none, entry-value}
+use Rattle.layout.proofs.Heads.{and-true}
 use Rattle.table.specs.declared.child.Found.{Found}
 use Rattle.table.specs.declared.child.Found.the-variants.{At, Nothing}
 use Rattle.table.specs.Walk.{entries-here}
@@ -191,10 +192,6 @@ module _ (recs text : List ℕ) (i m k : ℕ) (f : m ≡ word 2 recs (i + 6)) (e
       }
 
 -- ---- what the code answers, for every input
-
-and-true : (a b : Bool) → (a && b) ≡ true → (a ≡ true) × (b ≡ true)
-and-true true b e = (refl, e)
-and-true false b e = let z : _≡_ {A = ℕ} 0 1 = cc in absurd (omega arith)
 
 module _ (recs : List ℕ) (i left : ℕ) where
   abbrev test : Bool

@@ -16,14 +16,14 @@ use Rattle.paper.specs.TableDecoder.{in-table}
 use Rattle.paper.proofs.Laws.DecodeAt.{Bytes, word, raw-at, cursor}
 use Rattle.paper.proofs.Laws.DecodeFree.{basic-from, entries-from, entry-value, entry-body, entries-some}
 use Rattle.memory.specs.Memory.{word-at}
-use Rattle.memory.proofs.Laws.{word-in}
+use Rattle.memory.proofs.Laws.{fit, word-in}
 use Rattle.layout.specs.declared.form.Form.the-variants.{Table}
 use Rattle.layout.specs.declared.text.Past.{Past}
 use Rattle.layout.specs.declared.text.Past.the-variants.{At, Bad}
 use Rattle.layout.specs.Form.{form-of, size-of}
 use Rattle.layout.specs.Text.{FieldIs}
 use Rattle.layout.specs.Walk as Layout
-use Rattle.layout.proofs.Heads.{by-place, stop, goes, stops, headless, record-inside, record-outside}
+use Rattle.layout.proofs.Heads.{and-true, stop, goes, stops, headless, record-inside, record-outside}
 use Rattle.layout.proofs.Heads as Nodes
 use Rattle.table.specs.Walk.{heads, LabelIs}
 
@@ -35,10 +35,6 @@ pub record Head (recs : List ℕ) (i d n : ℕ) : Type 0 where
   pub placed : word 2 recs (i + 2) ≡ d
   pub some : 1 ≤ word 2 recs (i + 6)
   pub few : word 2 recs (i + 6) ≤ n
-
-and-true : (a b : Bool) → (a && b) ≡ true → (a ≡ true) × (b ≡ true)
-and-true true b e = (refl, e)
-and-true false b e = let z : _≡_ {A = ℕ} 0 1 = cc in absurd (omega arith)
 
 module _ (recs : List ℕ) (i d n : ℕ) where
   pub head-of : heads recs i d n ≡ true → Head recs i d n
@@ -80,9 +76,10 @@ module _ (recs text : List ℕ) (i p d : ℕ) (b : Bytes recs) where
   headless-wrong : (k : ℕ) → Layout.heads Table recs i d (suc k) ≡ false → entry-body (basic-from in-table) entries-from d k (cursor recs text i p) ≡ none
   unfolding entry-body raw-at size-of form-of in-table
   headless-wrong k e =
-      by-place Table recs text i p b _
+      ⊎-elim
       (λ w. goes _ (record-inside Table recs text i p b w) (stops (leb d 32) (eqb (word 2 recs (i + 2)) d) (leb 1 (word 2 recs (i + 6))) (leb (word 2 recs (i + 6)) (suc k)) _ (headless Table recs i d (suc k) w e)))
       (λ w. stop _ (record-outside Table recs text i p b w))
+      (fit (i + size-of Table) (length recs))
 
   headless-elsewhere : (k : ℕ) → (Layout.heads Table recs i d (suc k) ≡ true) × (eqb (word 2 recs (i + 2)) d ≡ false) → entry-body (basic-from in-table) entries-from d k (cursor recs text i p) ≡ none
   unfolding entry-body raw-at size-of form-of in-table _>>=_ require
