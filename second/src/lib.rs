@@ -5,6 +5,7 @@
 //! statements, after document 002, and `run` over steps. `generate` makes seeded test cases.
 
 pub mod act;
+pub mod checks;
 pub mod evaluate;
 pub mod generate;
 pub mod grammar;

@@ -1,5 +1,6 @@
 //! The command: the four operations over files and streams, and the generator of cases.
 
+use second::checks::{all_lines, all_packed, full_inputs, packed};
 use second::generate::{cases, Kind};
 use second::operations::{main_table, resolve, run, translate};
 use second::refusal::Refusal;
@@ -11,7 +12,10 @@ const USAGE: &str = "usage:
   second run LIST TABLE > table
   second main < table > main-table
   second resolve < description > main-table
-  second generate translate|run|main|resolve SEED COUNT [MAXBYTES]";
+  second generate translate|run|main|resolve SEED COUNT [MAXBYTES]
+  second check-inputs > inputs
+  second check-lines > lines
+  second check-full 0|1|2 > input";
 
 fn main() -> ExitCode {
     let words: Result<Vec<String>, _> = std::env::args_os()
@@ -37,6 +41,11 @@ fn command(words: &[&str]) -> Option<Done> {
         ["main"] => Some(over_input(main_table)),
         ["resolve"] => Some(over_input(resolve)),
         ["run", list, table] => Some(run_files(list, table)),
+        ["check-inputs"] => Some(write_out(&all_packed())),
+        ["check-lines"] => Some(write_out((all_lines().join("\n") + "\n").as_bytes())),
+        ["check-full", which] => full_inputs()
+            .get(which.parse::<usize>().ok()?)
+            .map(check_full),
         ["generate", wanted @ ..] => read_wanted(wanted).map(generate),
         _ => None,
     }
@@ -77,6 +86,13 @@ fn write_out(bytes: &[u8]) -> Done {
     let mut out = io::stdout().lock();
     let written = out.write_all(bytes).and_then(|()| out.flush());
     written.map_err(|error| format!("cannot write: {error}"))
+}
+
+/// One input at the bounds, as the program reads it.
+fn check_full(input: &Vec<u8>) -> Done {
+    let mut bytes = 1u32.to_le_bytes().to_vec();
+    bytes.extend(packed(std::slice::from_ref(input), false));
+    write_out(&bytes)
 }
 
 struct Wanted {

@@ -1,14 +1,13 @@
 -- Stores as rows: what a look, an end and a put among rows come to in the store. Assumes nothing.
-use Prim.Native.Nat.{ℕ, zero, suc, _+_, _-_, _%_, _≤_, _<_, max}
+use Prim.Native.Nat.{ℕ, suc, _+_, _-_, _%_, _≤_, _<_, max}
 use native.Mathlib.Omega.{arith}
-use native.Mathlib.Nat.{le-refl, zero-add}
+use native.Mathlib.Nat.{le-refl, zero-add, add-zero}
 use mathlib.Core.Path.{_≡_, refl, sym, ap, ap₂, _∙_, subst}
 use mathlib.Core.Bool.{Bool, true, false, _&&_, false≢true}
 use mathlib.Core.List.{List, [], _∷_, _++_, append-assoc, append-nil, map, map-append}
-use mathlib.Core.Option.{Option, none, some}
-use lib.ListN.{length, take, drop, length-append, length-drop}
-use lib.Seq.{take-at, drop-at}
-use lib.Dec.{ltb, eqb}
+use mathlib.Core.Option.{none, some}
+use lib.ListN.{length, drop, length-append}
+use lib.Dec.{eqb}
 use borrow.Author.Tests.{lt-ltb, le-ltb, eq-eqb, ne-eqb, eqb-true}
 use Rattle.paper.specs.Bytes.{same, if_then_else_}
 use Rattle.paper.specs.Syntax.{Name, Basic, boolean, null, integer, decimal, string, reference, vector, Basics, εⱽ, _∷ⱽ_}
@@ -55,6 +54,10 @@ pub head-label : (d : ℕ) (n : Name) (v : Value) → head d n v .label ≡ text
 unfolding head line sized table-row
 head-label d n (basic b) = refl
 head-label d n (component c) = refl
+
+pub flat-component : (d : ℕ) (n : Name) (c : Store) → flat-value d n (component c) ≡ head d n (component c) ∷ flat (suc d) c
+unfolding beneath
+flat-component d n c = flat-head d n (component c)
 
 -- ---- all rows at least so deep
 abbrev pub Deep : ℕ → List Row → Type 0
@@ -138,6 +141,9 @@ deeper-deep d (x ∷ xs) q h =
     let e : suc (length xs + deeper d q) ≡ suc (length xs) + deeper d q = omega arith in
     rw (le-ltb (x .second) d (h .0)) (ap suc (deeper-deep d xs q (h .1)) ∙ e)
 
+pub deeper-flat : (d e : ℕ) (s : Store) (q : List Row) → d ≤ e → deeper d (flat e s ++ q) ≡ length (flat e s) + deeper d q
+deeper-flat d e s q h = deeper-deep d (flat e s) q (deep-less d e (flat e s) h (deep-flat e s))
+
 pub deeper-low : (d : ℕ) (q : List Row) → Low d q → deeper d q ≡ 0
 unfolding deeper if_then_else_
 deeper-low d [] h = refl
@@ -157,6 +163,9 @@ low-rest d (entry n v s) q h =
 -- how many rows a value has, when what follows is no deeper
 pub deeper-value : (d : ℕ) (v : Value) (q : List Row) → Low (suc d) q → deeper (suc d) (beneath d v ++ q) ≡ length (beneath d v)
 deeper-value d v q h = deeper-deep (suc d) (beneath d v) q (deep-beneath d v) ∙ ap (λ k. length (beneath d v) + k) (deeper-low (suc d) q h) ∙ omega arith
+
+pub deeper-rest : (d : ℕ) (n : Name) (v : Value) (q : List Row) → Low (suc d) q → deeper (suc d) (drop 1 (flat-value d n v) ++ q) + 1 ≡ length (flat-value d n v)
+deeper-rest d n v q h = rw (flat-head d n v) (omega (arith, deeper-value d v q h))
 
 -- ---- the one look: what it comes to in the store, and what a put does there
 
@@ -264,6 +273,20 @@ pub length-flat : (d : ℕ) (s : Store) → length (flat d s) ≡ length (rows d
 unfolding flat
 length-flat d s = sized-length (rows d s)
 
+-- the same of one attribute
+module _ (d : ℕ) (n : Name) (v : Value) where
+  pub text-bytes-value : text-bytes (flat-value d n v) ≡ length (texts (value-rows d (text (name-text n)) v))
+  unfolding flat-value
+  text-bytes-value = sized-text (value-rows d (text (name-text n)) v)
+
+  pub deepest-value : deepest (flat-value d n v) ≡ deepest (value-rows d (text (name-text n)) v)
+  unfolding flat-value
+  deepest-value = sized-deepest (value-rows d (text (name-text n)) v)
+
+  pub length-value : length (flat-value d n v) ≡ length (value-rows d (text (name-text n)) v)
+  unfolding flat-value
+  length-value = sized-length (value-rows d (text (name-text n)) v)
+
 -- ---- rows moved to another depth
 
 unfoldable pub row-moved : ℕ → ℕ → Row → Row
@@ -357,3 +380,10 @@ module _ (from to : ℕ) where
 
   pub moved-value : (d : ℕ) (n : Name) (v : Value) → Room (flat-value (from + d) n v) → map (row-moved from to) (flat-value (from + d) n v) ≡ flat-value (to + d) n v
   moved-value d n v h = value-of-beneath d n v h (λ k. moved-beneath d v k)
+
+  -- from the depth itself
+  pub value-moved : (n : Name) (v : Value) → deepest (flat-value from n v) + to < 65536 → map (row-moved from to) (flat-value from n v) ≡ flat-value to n v
+  value-moved n v h = rw (add-zero from, add-zero to) at (moved-value 0 n v (rw (add-zero from) h))
+
+  pub flat-moved : (s : Store) → deepest (flat from s) + to < 65536 → map (row-moved from to) (flat from s) ≡ flat to s
+  flat-moved s h = rw (add-zero from, add-zero to) at (moved-flat 0 s (rw (add-zero from) h))

@@ -1,6 +1,7 @@
 -- The rules of a look among attributes, and of the test that no name stands twice, one for each way through the code. Assumes nothing.
-use Prim.Native.Nat.{ℕ, suc, _+_, _*_, _-_, _≤_, _<_}
+use Prim.Native.Nat.{ℕ, zero, suc, _+_, _*_, _-_, _≤_, _<_}
 use native.Mathlib.Omega.{arith}
+use native.Mathlib.Nat.{le-refl}
 use native.Mathlib.Numerals.{add-one}
 use mathlib.Core.Path.{_≡_, refl, sym, _∙_, ap}
 use mathlib.Core.Bool.{Bool, true, false, _&&_}
@@ -8,8 +9,8 @@ use mathlib.Core.List.{List, [], _∷_}
 use mathlib.Core.Option.{none, some}
 use lib.ListN.{length, drop, getD, drop-of-length-le}
 use lib.Seq.{drop-cons}
-use lib.Dec.{eqb}
-use borrow.Author.Tests.{eq-eqb, ne-eqb}
+use lib.Dec.{leb, ltb, eqb}
+use borrow.Author.Tests.{ltb-true, ltb-false, leb-true, lt-ltb, le-ltb, le-leb, lt-leb, eq-eqb, ne-eqb}
 use Rattle.paper.specs.Bytes.{same, if_then_else_}
 use Rattle.paper.specs.Maybe.{require}
 use Rattle.paper.specs.Store.{Store, ∅, entry, Value, component, lookup}
@@ -18,10 +19,11 @@ use Rattle.paper.specs.Decoder.{Cursor}
 use Rattle.paper.specs.TableDecoder.{in-table, absent, distinct}
 use Rattle.paper.proofs.Laws.DecodeAt.{Bytes, word, raw-at, cursor}
 use Rattle.paper.proofs.Laws.DecodeFree.{basic-from, entries-none, entry-value}
+use Rattle.layout.proofs.Heads.{and-true}
 use Rattle.table.specs.declared.child.Found.{Found}
 use Rattle.table.specs.declared.child.Found.the-variants.{At, Nothing}
 use Rattle.table.specs.Walk.{entries-here}
-use Rattle.table.specs.Child.{named-at, Spanned, SpanAt, Child, Holds, FoundIs, AloneIs, DistinctIs, DistinctInIs}
+use Rattle.table.specs.Child.{named-at, span-in, found-from, found-in, Spanned, SpanAt, Child, Holds, FoundIs, AloneIs, DistinctIs, DistinctInIs}
 use Rattle.table.proofs.Inside.{bind-some, some-is, Entry, entry-of}
 
 -- ---- two runs of bytes
@@ -188,3 +190,105 @@ module _ (recs text : List ℕ) (i m k : ℕ) (f : m ≡ word 2 recs (i + 6)) (e
             let H : Holds recs text (i + 16) (m - 1) (suc d) p (x .0 .0) (x .0 .1) = record { is = rw f (x .1) } in
             rw (← a) (D .told (suc d) p (x .0 .0) (x .0 .1) H);
       }
+
+-- ---- what the code answers, for every input
+
+module _ (recs : List ℕ) (i left : ℕ) where
+  abbrev test : Bool
+  test = leb (i + 16) (length recs) && (leb (word 2 recs (i + 6)) left && leb (i + 16 * word 2 recs (i + 6)) (length recs))
+
+  pub span-yes : i + 16 ≤ length recs → word 2 recs (i + 6) ≤ left → i + 16 * word 2 recs (i + 6) ≤ length recs → word 2 recs (i + 6) ≡ span-in recs i left
+  unfolding span-in if_then_else_
+  span-yes a b c = rw (le-leb (i + 16) (length recs) a, le-leb (word 2 recs (i + 6)) left b, le-leb (i + 16 * word 2 recs (i + 6)) (length recs) c)
+
+  pub span-outside : length recs < i + 16 → 0 ≡ span-in recs i left
+  unfolding span-in if_then_else_
+  span-outside a = rw (lt-leb (i + 16) (length recs) a)
+
+  pub span-many : i + 16 ≤ length recs → left < word 2 recs (i + 6) → 0 ≡ span-in recs i left
+  unfolding span-in if_then_else_
+  span-many a b = rw (le-leb (i + 16) (length recs) a, lt-leb (word 2 recs (i + 6)) left b)
+
+  pub span-long : i + 16 ≤ length recs → word 2 recs (i + 6) ≤ left → length recs < i + 16 * word 2 recs (i + 6) → 0 ≡ span-in recs i left
+  unfolding span-in if_then_else_
+  span-long a b c = rw (le-leb (i + 16) (length recs) a, le-leb (word 2 recs (i + 6)) left b, lt-leb (i + 16 * word 2 recs (i + 6)) (length recs) c)
+
+  span-cases : SpanAt recs i left (span-in recs i left)
+  unfolding span-in if_then_else_
+  span-cases = case test refl
+    where
+      case : (t : Bool) → test ≡ t → SpanAt recs i left (if t then word 2 recs (i + 6) else 0)
+      case true e =
+          let a = and-true (leb (i + 16) (length recs)) _ e in
+          let b = and-true (leb (word 2 recs (i + 6)) left) _ (a .1) in
+          record {
+            good = λ h. record { head = leb-true _ _ (a .0); some = h; few = leb-true _ _ (b .0); within = leb-true _ _ (b .1); is = refl };
+            found = λ S. refl;
+          }
+      case false e =
+          record {
+            good = λ h. absurd (omega arith);
+            found = λ S.
+                let z : test ≡ true = rw (le-leb (i + 16) (length recs) (S .head), le-leb (word 2 recs (i + 6)) left (S .few), le-leb (i + 16 * word 2 recs (i + 6)) (length recs) (S .within)) in
+                let o : _≡_ {A = ℕ} 0 1 = cc in absurd (omega arith);
+          }
+
+  pub span-at-of : (m : ℕ) → m ≡ span-in recs i left → SpanAt recs i left m
+  span-at-of m e = rw e span-cases
+
+module _ (recs text name : List ℕ) where
+  pub found-none : (f i left : ℕ) → left ≡ 0 → Nothing ≡ found-from f recs text i left name
+  unfolding found-from if_then_else_
+  found-none zero i left z = refl
+  found-none (suc f) i left z = rw (z, found-from)
+
+  module _ (i left m : ℕ) (e : m ≡ span-in recs i left) (l : 0 < left) where
+    pub found-stuck : (f : ℕ) → left ≤ f → m < 1 → Nothing ≡ found-from f recs text i left name
+    unfolding found-from if_then_else_
+    found-stuck zero h k = absurd (omega arith)
+    found-stuck (suc f) h k = rw (found-from, ne-eqb left 0 (λ z. omega arith), ← e, lt-ltb m 1 k)
+
+    module _ (k : 1 ≤ m) where
+      pub found-here : (f : ℕ) → left ≤ f → same (named-at recs text i) name ≡ true → At i ≡ found-from f recs text i left name
+      unfolding found-from if_then_else_
+      found-here zero h s = absurd (omega arith)
+      found-here (suc f) h s = rw (found-from, ne-eqb left 0 (λ z. omega arith), ← e, le-ltb m 1 k, s)
+
+      pub found-on : (f : ℕ) → left ≤ f → same (named-at recs text i) name ≡ false → found-from f recs text i left name ≡ found-from (f - 1) recs text (i + 16 * m) (left - m) name
+      unfolding found-from if_then_else_
+      found-on zero h s = absurd (omega arith)
+      found-on (suc f) h s =
+          let q : suc f - 1 ≡ f = omega arith in
+          rw (q, found-from, ne-eqb left 0 (λ z. omega arith), ← e, le-ltb m 1 k, s)
+
+  -- for a store's attributes it is what the store has
+  found-step : Bytes recs → (f i left : ℕ) → left ≤ suc f → ((j k : ℕ) → k ≤ f → FoundIs recs text j k name (found-from f recs text j k name)) → FoundIs recs text i left name (found-from (suc f) recs text i left name)
+  found-step b f i left h again = by-left (ltb 0 left) refl
+    where
+      by-name : 0 < left → 1 ≤ span-in recs i left → (t : Bool) → same (named-at recs text i) name ≡ t → FoundIs recs text i left name (found-from (suc f) recs text i left name)
+      by-name l k true s = rw (← found-here i left (span-in recs i left) refl l k (suc f) h s) (find-here recs text i left b l name s)
+      by-name l k false s =
+          let S = span-at-of recs i left (span-in recs i left) refl .good k in
+          let q : suc f - 1 ≡ f = omega arith in
+          rw (found-on i left (span-in recs i left) refl l k (suc f) h s, q)
+          (find-more recs text i left b l (span-in recs i left) S name _ s (again (i + 16 * span-in recs i left) (left - span-in recs i left) (omega arith)))
+
+      by-span : 0 < left → (t : Bool) → ltb (span-in recs i left) 1 ≡ t → FoundIs recs text i left name (found-from (suc f) recs text i left name)
+      by-span l true e =
+          rw (← found-stuck i left (span-in recs i left) refl l (suc f) h (ltb-true _ _ e))
+          (find-stuck recs text i left b l name (span-in recs i left) (span-at-of recs i left (span-in recs i left) refl) (ltb-true _ _ e))
+      by-span l false e = by-name l (ltb-false _ _ e) (same (named-at recs text i) name) refl
+
+      by-left : (t : Bool) → ltb 0 left ≡ t → FoundIs recs text i left name (found-from (suc f) recs text i left name)
+      by-left true e = by-span (ltb-true _ _ e) (ltb (span-in recs i left) 1) refl
+      by-left false e =
+          let z : left ≡ 0 = omega (arith, ltb-false 0 left e) in
+          rw (← found-none (suc f) i left z) (find-end recs text i left name z)
+
+  found-is : Bytes recs → (f i left : ℕ) → left ≤ f → FoundIs recs text i left name (found-from f recs text i left name)
+  found-is b zero i left h = rw (← found-none zero i left (omega arith)) (find-end recs text i left name (omega arith))
+  found-is b (suc f) i left h = found-step b f i left h (λ j k l. found-is b f j k l)
+
+pub found-told : (recs text : List ℕ) (i n : ℕ) (name : List ℕ) (r : Found) → Bytes recs → r ≡ found-in recs text i n name → FoundIs recs text i n name r
+unfolding found-in
+found-told recs text i n name r b e = rw e (found-is recs text name b n i n (le-refl n))

@@ -25,7 +25,7 @@ use Rattle.paper.proofs.Laws.Found.{found-some}
 use Rattle.paper.proofs.Laws.DecodeAt.{Bytes, word, raw-at, cursor}
 use Rattle.paper.proofs.Laws.DecodeFree.{basic-from, entries-from, entry-value}
 use Rattle.memory.specs.Memory.{part-at}
-use Rattle.memory.proofs.Laws.{word-below, part-in}
+use Rattle.memory.proofs.Laws.{word-below, word-in, part-in}
 use Rattle.table.specs.Walk.{heads, value-here, entries-here}
 use Rattle.table.specs.Child.{named-at, Spanned, Holds}
 use Rattle.table.proofs.Heads.{Head, head-of, entries-headless, entries-open}
@@ -192,9 +192,9 @@ name-part txt p n t e =
       omega (arith, length-drop p txt),
     )
 
-named-is : (recs txt : List ℕ) (i p : ℕ) (n : List ℕ) → word 2 recs (i + 4) ≡ p → getD txt p 0 ≡ length n → part-at txt (p + 1) (length n) ≡ n → named-at recs txt i ≡ n
+named-is : (recs txt : List ℕ) (i p : ℕ) (n : List ℕ) → i + 16 ≤ length recs → word 2 recs (i + 4) ≡ p → getD txt p 0 ≡ length n → part-at txt (p + 1) (length n) ≡ n → named-at recs txt i ≡ n
 unfolding named-at
-named-is recs txt i p n l e f = rw (l, e) f
+named-is recs txt i p n w l e f = rw (word-in 2 recs (i + 4) (omega arith), l, e) f
 
 module _ (recs txt : List ℕ) (i n d p : ℕ) (b : Bytes recs) (some-left : 0 < n) (s : Store) (after : Cursor) (H : Holds recs txt i n d p s after) where
   headed : heads recs i d n ≡ true
@@ -226,7 +226,7 @@ module _ (recs txt : List ℕ) (i n d p : ℕ) (b : Bytes recs) (some-left : 0 <
         value = b₂ .0 .0;
         others = b₃ .0 .0;
         is = sym (ap (λ x. x .0) (some-is _ _ (b₃ .2)));
-        named = named-is recs txt i p name l (N .0) (N .1);
+        named = named-is recs txt i p name (h .within) l (N .0) (N .1);
         labelled = l;
         sized = N .0;
         inside = N .2;

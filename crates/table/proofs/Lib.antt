@@ -1,5 +1,3 @@
-pub mod Texts
-pub mod Leaves
 pub mod Heads
 pub mod Steps
 pub mod Inside

@@ -19,14 +19,17 @@ use Rattle.paper.specs.Store as S
 use Rattle.paper.specs.Layout.{Row, rows, deepest, texts, records, table}
 use Rattle.paper.specs.Meaning.{main}
 use Rattle.paper.specs.Operations.{Outcome, or-refused, told, written, main-op, takes-main}
-use Rattle.paper.specs.Decoder.{Cursor, header}
-use Rattle.paper.specs.TableDecoder.{absent, table-of}
+use Rattle.paper.specs.Decoder.{Cursor}
+use Rattle.paper.specs.TableDecoder.{in-table, absent, table-of}
+use Rattle.layout.specs.declared.form.Form.the-variants.{Table}
+use Rattle.layout.specs.Form.{form-of, number-of, size-of, most-text}
+use Rattle.layout.specs.Header.{header-in}
 use Rattle.paper.proofs.Decoded.Header.{headed, records-length, laid-out-headed}
 use Rattle.paper.proofs.Decoded.Rows.{Front}
 use Rattle.paper.proofs.Laws.DecodeAt.{Bytes, word, cursor}
 use Rattle.paper.proofs.Laws.DecodeFree.{entries-none, table-of-is}
-use Rattle.memory.specs.Memory.{stored}
-use Rattle.memory.proofs.Laws.{stored-front}
+use Rattle.memory.specs.Memory.{word-at, stored}
+use Rattle.memory.proofs.Laws.{word-in, stored-front}
 use Rattle.table.specs.declared.operation.Answer.{Answer}
 use Rattle.table.specs.declared.operation.Answer.the-variants.{Done, Refused}
 use Rattle.table.specs.Walk.{entries-here}
@@ -208,7 +211,10 @@ module _ (recs text : List ℕ) (n : ℕ) (T : Tabled recs text n) where
     pub child-within : j + 16 ≤ length recs
     child-within = found-entry .head .within
 
-    module _ (k : ℕ) (e : k ≡ word 2 recs j) where
+    module _ (k : ℕ) (a : k ≡ word-at 2 recs j) where
+      e : k ≡ word 2 recs j
+      e = a ∙ word-in 2 recs j (omega (arith, child-within))
+
       pub main-basic : (k ≡ 0 → ⊥) → main-of (store-in recs text n) ≡ refused 20 0
       main-basic h =
           let B = basic-of recs text 1 j _ (found-entry .value) _ (found-entry .valued) (λ z. h (e ∙ z)) in
@@ -253,8 +259,8 @@ not-table b e = go (table-of b) refl e
     go none q f = q
     go (some s) q f = let z : _≡_ {A = ℕ} 0 1 = cc in absurd (omega arith)
 
-pub no-header : (b : List ℕ) → header 2 16 1024 16384 b ≡ none → table-of b ≡ none
-unfolding _>>=_
+pub no-header : (b : List ℕ) → header-in Table b ≡ none → table-of b ≡ none
+unfolding header-in number-of size-of most-text form-of in-table _>>=_
 no-header b e = rw (table-of-is b, e)
 
 -- a lowered table has at most 32,792 bytes

@@ -22,7 +22,10 @@ use Rattle.paper.proofs.Laws.DecodeAt.{Bytes, word, raw-at, cursor}
 use Rattle.paper.proofs.Laws.DecodeFree.{basic-from, entries-from, entry-value}
 use Rattle.table.specs.Walk.{value-here, entries-here}
 use Rattle.table.specs.Child.{Holds}
-use Rattle.table.specs.Whole.{is-table-of, store-in, records-in, text-in, Sized}
+use Rattle.layout.specs.declared.form.Form.the-variants.{Table}
+use Rattle.layout.specs.Form.{form-of, size-of, most-text}
+use Rattle.layout.specs.Header.{records-of, text-of, Sized}
+use Rattle.table.specs.Whole.{is-table-of, store-in}
 use Rattle.table.specs.Main.{Tabled}
 use Rattle.table.proofs.Inside.{bind-some, some-is, entry-of}
 use Rattle.table.proofs.Headers.{table-whole}
@@ -75,16 +78,16 @@ root-of recs text n s e =
 
 -- ---- bytes that are a table
 
-pub tabled-of : (b : List ℕ) (n : ℕ) → Sized b n → is-table-of b ≡ true → Tabled (records-in b n) (text-in b n) n
-unfolding is-table-of absent
+pub tabled-of : (b : List ℕ) (n : ℕ) → Sized Table b n → is-table-of b ≡ true → Tabled (records-of Table b) (text-of b) n
+unfolding is-table-of absent size-of most-text form-of in-table
 tabled-of b n S e = go (table-of b) refl e
   where
-    go : (t : Option Store) → table-of b ≡ t → not (absent t) ≡ true → Tabled (records-in b n) (text-in b n) n
+    go : (t : Option Store) → table-of b ≡ t → not (absent t) ≡ true → Tabled (records-of Table b) (text-of b) n
     go none q f = let z : _≡_ {A = ℕ} 0 1 = cc in absurd (omega arith)
     go (some s) q f =
         record {
           store = s;
           is = sym (table-whole b n S) ∙ q;
-          many = simp (length-take, length-drop) (omega (arith, S .few));
+          many = omega (arith, S .few, S .many);
           short = S .short;
         }

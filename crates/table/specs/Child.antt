@@ -1,24 +1,26 @@
 -- What the code answers of attributes of a table that was found well laid out: for every store whose attributes the records are.
 -- Assumes nothing.
-use Prim.Native.Nat.{ℕ, _+_, _-_, _*_, _≤_, _<_}
+use Prim.Native.Nat.{ℕ, zero, suc, _+_, _-_, _*_, _≤_, _<_}
 use mathlib.Core.Path.{_≡_}
-use mathlib.Core.Bool.{Bool}
+use mathlib.Core.Bool.{Bool, _&&_}
 use mathlib.Core.List.{List}
 use mathlib.Core.Option.{none, some}
 use lib.ListN.{length, getD}
+use lib.Dec.{leb, ltb, eqb}
+use Rattle.paper.specs.Bytes.{same, if_then_else_}
 use Rattle.paper.specs.Syntax.{Name}
 use Rattle.paper.specs.Store.{Store, entry, Value, lookup}
 use Rattle.paper.specs.Decoder.{Cursor}
 use Rattle.paper.specs.TableDecoder.{distinct, distinct-in, absent}
 use Rattle.paper.proofs.Laws.DecodeAt.{word}
-use Rattle.memory.specs.Memory.{part-at}
+use Rattle.memory.specs.Memory.{word-at, part-at}
 use Rattle.table.specs.declared.child.Found.{Found}
 use Rattle.table.specs.declared.child.Found.the-variants.{At, Nothing}
 use Rattle.table.specs.Walk.{value-here, entries-here}
 
--- the name of the record at i
+-- the name of the record at i; none where it lies outside
 unfoldable pub named-at : List ℕ → List ℕ → ℕ → List ℕ
-named-at recs text i = part-at text (word 2 recs (i + 4) + 1) (getD text (word 2 recs (i + 4)) 0)
+named-at recs text i = part-at text (word-at 2 recs (i + 4) + 1) (getD text (word-at 2 recs (i + 4)) 0)
 
 -- a span that leads to the next attribute, within what is left
 pub record Spanned (recs : List ℕ) (i m left : ℕ) : Type 0 where
@@ -31,6 +33,23 @@ pub record Spanned (recs : List ℕ) (i m left : ℕ) : Type 0 where
 pub record SpanAt (recs : List ℕ) (i left m : ℕ) : Type 0 where
   pub good : 1 ≤ m → Spanned recs i m left
   pub found : Spanned recs i (word 2 recs (i + 6)) left → m ≡ word 2 recs (i + 6)
+
+-- the span of the record at i, where it leads to the next within what is left; else 0
+unfoldable pub span-in : List ℕ → ℕ → ℕ → ℕ
+span-in recs i left =
+    if leb (i + 16) (length recs) && (leb (word 2 recs (i + 6)) left && leb (i + 16 * word 2 recs (i + 6)) (length recs)) then word 2 recs (i + 6) else 0
+
+-- the first of the attributes at i that has the name, of which there are so many records; the first number, no less, counts the turns
+unfoldable pub found-from : ℕ → List ℕ → List ℕ → ℕ → ℕ → List ℕ → Found
+found-from zero recs text i left name = Nothing
+found-from (suc f) recs text i left name =
+    if eqb left 0 then Nothing else
+    if ltb (span-in recs i left) 1 then Nothing else
+    if same (named-at recs text i) name then At i else
+    found-from f recs text (i + 16 * span-in recs i left) (left - span-in recs i left) name
+
+unfoldable pub found-in : List ℕ → List ℕ → ℕ → ℕ → List ℕ → Found
+found-in recs text i n name = found-from n recs text i n name
 
 -- n records at i are the attributes of s, at depth d
 pub record Holds (recs text : List ℕ) (i n d p : ℕ) (s : Store) (after : Cursor) : Type 0 where

@@ -1,4 +1,3 @@
-pub mod Text
 pub mod Walk
 pub mod Child
 pub mod Whole

@@ -5,21 +5,21 @@ use mathlib.Core.Bool.{Bool, _&&_}
 use mathlib.Core.List.{List}
 use mathlib.Core.Option.{Option, none, some}
 use lib.ListN.{length}
-use lib.Dec.{leb, eqb}
-use Rattle.paper.specs.Syntax.{Name, Basic, Basics}
+use lib.Dec.{eqb}
+use Rattle.paper.specs.Syntax.{Name}
 use Rattle.paper.specs.Store.{Store, Value}
 use Rattle.paper.specs.Decoder.{Cursor, field, name-of}
 use Rattle.paper.specs.TableDecoder.{in-table}
 use Rattle.paper.proofs.Laws.DecodeAt.{word, raw-at, cursor}
-use Rattle.paper.proofs.Laws.DecodeFree.{basic-from, elements-from, entries-from, entry-value}
-use Rattle.table.specs.declared.text.Past.{Past}
-use Rattle.table.specs.declared.text.Past.the-variants.{At, Bad}
-use Rattle.table.specs.declared.walk.Walk.{Walk}
-use Rattle.table.specs.declared.walk.Walk.the-variants.{Walked, Wrong}
+use Rattle.paper.proofs.Laws.DecodeFree.{basic-from, entries-from, entry-value}
+use Rattle.layout.specs.declared.form.Form.the-variants.{Table}
+use Rattle.layout.specs.declared.text.Past.{Past}
+use Rattle.layout.specs.declared.text.Past.the-variants.{At, Bad}
+use Rattle.layout.specs.Walk as Layout
 
--- what every record must have, whatever its kind: it lies within, at this depth, and it spans one node or more and no more than are left
+-- what every record must have, whatever its kind: a node's head, and this depth
 unfoldable pub heads : List ℕ → ℕ → ℕ → ℕ → Bool
-heads recs i d n = leb (i + 16) (length recs) && (leb d 32 && (eqb (word 2 recs (i + 2)) d && (leb 1 (word 2 recs (i + 6)) && leb (word 2 recs (i + 6)) n)))
+heads recs i d n = Layout.heads Table recs i d n && eqb (word 2 recs (i + 2)) d
 
 -- a record at i of which this is known, with its span m
 pub record Headed (recs : List ℕ) (i d m : ℕ) : Type 0 where
@@ -28,23 +28,12 @@ pub record Headed (recs : List ℕ) (i d m : ℕ) : Type 0 where
   pub some : 1 ≤ m
   pub spanned : m ≡ word 2 recs (i + 6)
 
--- a reader found something, and then stands at i in the records and at p in the text
-abbrev pub WalkIs : {A : Type 0} → Option (A × Cursor) → List ℕ → List ℕ → Walk → Type 0
-WalkIs {A} o recs text (Walked i p) = (a : A) × (o ≡ some (a, cursor recs text i p))
-WalkIs o recs text Wrong = o ≡ none
-
 -- the name of the record at i
 abbrev pub LabelIs : List ℕ → List ℕ → ℕ → ℕ → Past → Type 0
 LabelIs recs text i p (At q) = (n : Name) × (field name-of (word 2 recs (i + 4)) (cursor recs text (i + 16) p) ≡ some (n, cursor recs text (i + 16) q))
 LabelIs recs text i p Bad = field name-of (word 2 recs (i + 4)) (cursor recs text (i + 16) p) ≡ none
 
 -- the readers, at places
-abbrev pub basic-here : List ℕ → List ℕ → ℕ → ℕ → ℕ → ℕ → Option (Basic × Cursor)
-basic-here recs text d m i p = basic-from in-table d (word 2 recs i) m (word 8 recs (i + 8)) (cursor recs text (i + 16) p)
-
-abbrev pub elements-here : List ℕ → List ℕ → ℕ → ℕ → ℕ → ℕ → Option (Basics × Cursor)
-elements-here recs text d n i p = elements-from in-table d n (cursor recs text i p)
-
 abbrev pub value-here : List ℕ → List ℕ → ℕ → ℕ → ℕ → Option (Value × Cursor)
 value-here recs text d i p = entry-value (basic-from in-table) entries-from d (raw-at 0 recs i) (cursor recs text (i + 16) p)
 

@@ -1,15 +1,12 @@
 // A look among the attributes of a component, in the records of a table.
-use crate::text::byte;
-use crate::text::number;
+use layout::byte;
+use layout::label_at;
+use layout::span_at;
 use memory::fits;
-use memory::get16;
 use memory::part;
 ghost use mathlib.Core.Path.{_≡_};
-ghost use Prim.Native.Nat.{_+_, _*_, _≤_, _<_};
-ghost use lib.ListN.{length};
 ghost use Rattle.paper.specs.Bytes.{same};
-ghost use Rattle.paper.proofs.Laws.DecodeAt.{word};
-ghost use Rattle.table.specs.Child.{named-at, SpanAt, FoundIs};
+ghost use Rattle.table.specs.Child.{named-at, span-in, found-in};
 
 pub enum Found {
     At(usize),
@@ -32,30 +29,22 @@ fn same_bytes(a: &[u8], b: &[u8]) -> bool
     true
 }
 
-// The place of the text of a record's name.
-pub(crate) fn label(recs: &[u8], i: usize) -> usize
-    requires { ⌜ i + 16 ≤ length (now recs) ⌝ }
-    ensures { λ r. ⌜ (r ≡ word 2 (now (recs .entry)) (i + 4)) × (r < 65536) ⌝ }
-{
-    get16(recs, i + 4) as usize
-}
-
-pub(crate) fn name_at<'a, 'b>(recs: &'b [u8], text: &'a [u8], i: usize) -> &'a [u8]
-    requires { ⌜ i + 16 ≤ length (now recs) ⌝ }
+// The name of a record; none where its text lies outside.
+pub fn name_at<'a, 'b>(recs: &'b [u8], text: &'a [u8], i: usize) -> &'a [u8]
     ensures { λ r. ⌜ now r ≡ named-at (now (recs .entry)) (now (text .entry)) i ⌝ }
 {
-    let p = label(recs, i);
+    let p = label_at(recs, i);
     part(text, p + 1, byte(text, p))
 }
 
 // The span of a record, or 0 where it would lead outside.
-pub fn span_at(recs: &[u8], i: usize, left: usize) -> usize
-    ensures { λ r. ⌜ SpanAt (now (recs .entry)) i left r ⌝ }
+pub fn span_within(recs: &[u8], i: usize, left: usize) -> usize
+    ensures { λ r. ⌜ r ≡ span-in (now (recs .entry)) i left ⌝ }
 {
     if !fits(recs.len(), i, 16) {
         return 0;
     }
-    let span = number(recs, i + 6);
+    let span = span_at(recs, i);
     if left < span {
         return 0;
     }
@@ -68,13 +57,14 @@ pub fn span_at(recs: &[u8], i: usize, left: usize) -> usize
     span
 }
 
+// The attribute of this name among n records.
 pub fn find_child(recs: &[u8], text: &[u8], from: usize, n: usize, name: &[u8]) -> Found
-    ensures { λ r. ⌜ FoundIs (now (recs .entry)) (now (text .entry)) from n (now (name .entry)) r ⌝ }
+    ensures { λ r. ⌜ r ≡ found-in (now (recs .entry)) (now (text .entry)) from n (now (name .entry)) ⌝ }
 {
     let mut i = from;
     let mut left = n;
     while 0 < left {
-        let span = span_at(recs, i, left);
+        let span = span_within(recs, i, left);
         if span < 1 {
             return Found::Nothing;
         }

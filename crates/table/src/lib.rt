@@ -3,11 +3,13 @@ mod child;
 mod lower;
 mod once;
 mod operation;
-mod row;
-mod text;
 mod walk;
 mod whole;
 
+pub use child::Found;
+pub use child::find_child;
+pub use child::name_at;
+pub use child::span_within;
 pub use operation::Answer;
 pub use operation::main;
 pub use whole::is_table;

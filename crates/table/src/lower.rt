@@ -1,7 +1,7 @@
 // The table of a component's attributes, written from the records and the text that they have in a whole table.
-use crate::child::label;
-use crate::text::byte;
-use crate::text::number;
+use layout::byte;
+use layout::label_at;
+use layout::span_at;
 use memory::copy;
 use memory::get16;
 use memory::get64;
@@ -97,7 +97,7 @@ fn text_end(recs: &[u8], text: &[u8], next: usize) -> usize
     ensures { λ r. ⌜ r ≡ text-to (now (recs .entry)) (now (text .entry)) next ⌝ }
 {
     if next < recs.len() {
-        return number(recs, next + 4);
+        return label_at(recs, next);
     }
     text.len()
 }
@@ -106,7 +106,7 @@ fn text_start(recs: &[u8], text: &[u8], i: usize) -> usize
     requires { ⌜ i + 16 ≤ length (now recs) ⌝ }
     ensures { λ r. ⌜ r ≡ text-from (now (recs .entry)) (now (text .entry)) i ⌝ }
 {
-    let p = label(recs, i);
+    let p = label_at(recs, i);
     p + 1 + byte(text, p)
 }
 
@@ -115,7 +115,7 @@ pub(crate) fn lower_table(recs: &[u8], text: &[u8], i: usize, out: &mut [u8]) ->
     requires { ⌜ (Lowerable (now recs) (now text) i) × (32792 ≤ length (now out)) ⌝ }
     ensures { λ r. ⌜ (now (out .exit) ≡ stored (now (out .entry)) 0 (lowered-table (now (recs .entry)) (now (text .entry)) i)) × (r ≡ length (lowered-table (now (recs .entry)) (now (text .entry)) i)) ⌝ }
 {
-    let n = number(recs, i + 6) - 1;
+    let n = span_at(recs, i) - 1;
     let from = text_start(recs, text, i);
     let size = text_end(recs, text, i + 16 + 16 * n) - from;
     let place = 24 + 16 * n;

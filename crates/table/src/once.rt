@@ -2,8 +2,8 @@
 use crate::child::Found;
 use crate::child::find_child;
 use crate::child::name_at;
-use crate::child::span_at;
-use crate::text::number;
+use crate::child::span_within;
+use layout::kind_at;
 ghost use mathlib.Core.Path.{_≡_};
 ghost use Prim.Native.Nat.{_+_, _*_, _≤_};
 ghost use lib.ListN.{length};
@@ -30,7 +30,7 @@ fn distinct_in(recs: &[u8], text: &[u8], i: usize, span: usize) -> bool
     requires { ⌜ Spanned (now recs) i span span ⌝ }
     ensures { λ r. ⌜ DistinctInIs (now (recs .entry)) (now (text .entry)) i span r ⌝ }
 {
-    if number(recs, i) != 0 {
+    if kind_at(recs, i) != 0 {
         return true;
     }
     distinct(recs, text, i + 16, span - 1)
@@ -42,7 +42,7 @@ pub fn distinct(recs: &[u8], text: &[u8], from: usize, n: usize) -> bool
     let mut i = from;
     let mut left = n;
     while 0 < left {
-        let span = span_at(recs, i, left);
+        let span = span_within(recs, i, left);
         if span < 1 {
             return false;
         }

@@ -2,12 +2,13 @@
 use crate::child::Found;
 use crate::child::find_child;
 use crate::lower::lower_table;
-use crate::text::number;
-use crate::whole::Size;
-use crate::whole::count;
 use crate::whole::is_table;
-use crate::whole::records_of;
-use crate::whole::text_of;
+use layout::Form;
+use layout::Size;
+use layout::count;
+use layout::kind_at;
+use layout::records_of;
+use layout::text_of;
 ghost use mathlib.Core.Path.{_≡_};
 ghost use Prim.Native.Nat.{_≤_};
 ghost use lib.ListN.{length};
@@ -31,7 +32,7 @@ fn main_in(recs: &[u8], text: &[u8], n: usize, out: &mut [u8]) -> Answer
     let name = MAIN;
     match find_child(recs, text, 0, n, &name) {
         Found::At(i) => {
-            if number(recs, i) != 0 {
+            if kind_at(recs, i) != 0 {
                 return Answer::Refused(20, 0);
             }
             Answer::Done(lower_table(recs, text, i, out))
@@ -49,8 +50,8 @@ pub fn main(table: &[u8], out: &mut [u8]) -> Answer
     if !is_table(table) {
         return Answer::Refused(10, 0);
     }
-    match count(table) {
-        Size::Records(n) => main_in(records_of(table, n), text_of(table, n), n, out),
+    match count(Form::Table, table) {
+        Size::Records(n) => main_in(records_of(Form::Table, table), text_of(table), n, out),
         Size::Unfit => Answer::Refused(10, 0),
     }
 }

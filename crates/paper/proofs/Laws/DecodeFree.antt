@@ -21,7 +21,7 @@ use Rattle.paper.specs.StepDecoder.{in-steps, plain, bare, some-prototyp
 use Rattle.paper.proofs.Decoded.Parts.{raw-bytes, length-little}
 use Rattle.paper.proofs.Decoded.Rows.{Record, record-sound}
 use Rattle.paper.proofs.Laws.Answers.{if-case}
-use Rattle.paper.proofs.Laws.Found.{Found, nothing, found, found-bind, found-require}
+use Rattle.paper.proofs.Laws.Found.{Found, nothing, found, found-bind, found-require, found-some}
 
 -- ---- laws
 
@@ -495,6 +495,15 @@ prototypes-is d at =
     sym (prototypes-any (suc f) d at (omega arith))
     ∙ prototype-cong (statements-at f) statements-from (prototypes-at f) prototypes-from d at
     (λ d c l. statements-any f d c (omega arith)) (λ d c l. prototypes-any f d c (omega arith)) (λ d c. statements-shrink f d c)
+
+-- what is left is no more than there was
+pub statements-left : (d : ℕ) (at : Cursor) (b : Block) (c : Cursor) → statements-from d at ≡ some (b, c) → length (c .recs) ≤ length (at .recs)
+unfolding statements-from
+statements-left d at b c e = found-some (statements-shrink (2 * left at + 2) d at) e .shrunk
+
+pub value-left : (d : ℕ) (x : Raw) (at : Cursor) (v : Value) (c : Cursor) → value-from d x at ≡ some (v, c) → length (c .recs) ≤ length (at .recs)
+unfolding value-from
+value-left d x at v c e = found-some (value-shrinks (2 * left at + 4) d x at) e .shrunk
 
 -- a step list's reader
 pub block-of-is : (b : List ℕ) → block-of b ≡ header 1 20 1024 32768 b >>= λ x. statements-from 0 (x .1) >>= λ y. ended (y .1) >>= λ _. some (y .0)

@@ -4,8 +4,8 @@ use borrow.Author.Needs.{needs}
 use Rattle.table.proofs.child.name_at.Statement.{statement}
 use Rattle.table.proofs.child.name_at.Tie as tie
 
-label-requires : tie.Need-label-requires
-label-requires c κs = search needs
+label-at-requires : tie.Need-label-at-requires
+label-at-requires c κs = search needs
 
 add-part : tie.Need-add-part
 add-part c = search needs
@@ -18,7 +18,7 @@ part-requires c κs = search needs
 
 returns : tie.Need-returns
 unfolding named-at
-returns c = rw (← (c .before .before .label .ensures .0), ← (c .before .byte .ensures)) (c .part .ensures)
+returns c = rw (← (c .before .before .label-at .ensures .0), ← (c .before .byte .ensures)) (c .part .ensures)
 
 pub name-at-spec : {M : Type 1} → statement M
-name-at-spec = tie.close (tie.spec label-requires add-part byte-requires part-requires returns)
+name-at-spec = tie.close (tie.spec label-at-requires add-part byte-requires part-requires returns)

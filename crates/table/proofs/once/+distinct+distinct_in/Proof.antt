@@ -3,10 +3,12 @@
 use Prim.Native.Nat.{_+_, _-_, _*_, _≤_}
 use native.Mathlib.Omega.{arith}
 use native.Mathlib.Nat.{le-refl}
+use mathlib.Core.Path.{_∙_}
 use mathlib.Core.Bool.{Bool, true, false}
 use borrow.Author.Tests.{not-true, not-false}
+use Rattle.memory.proofs.Laws.{word-in}
 use Rattle.table.specs.Child.{DistinctIs}
-use Rattle.table.proofs.Children.{distinct-end, distinct-stuck, distinct-twice, distinct-below as distinct-inner, distinct-more, distinct-basic, distinct-component}
+use Rattle.table.proofs.Children.{span-at-of, distinct-end, distinct-stuck, distinct-twice, distinct-below as distinct-inner, distinct-more, distinct-basic, distinct-component}
 use borrow.Author.Needs.{needs}
 use Prim.Native.Nat.{ℕ, _<_}
 use borrow.Fn.Kinds.{In}
@@ -17,9 +19,9 @@ use Rattle.table.proofs.once.+distinct+distinct_in.Lts-distinct as dist
 use Rattle.table.proofs.once.distinct_in.Reads as distinct-in
 use Rattle.table.proofs.once.distinct_in.Kinds as distinct-in-kinds
 use Rattle.table.proofs.once.+distinct+distinct_in.Lts-distinct_in as distinct-in-lts
-use Rattle.table.proofs.child.span_at.Reads as span-at-reads
+use Rattle.table.proofs.child.span_within.Reads as span-within-reads
 use Rattle.table.proofs.once.alone.Reads as alone-reads
-use Rattle.table.proofs.text.number.Reads as number-reads
+use Rattle.layout.proofs.kind_at.Reads as kind-at-reads
 use Rattle.table.proofs.once.+distinct+distinct_in.{statement}
 use Rattle.table.proofs.once.+distinct+distinct_in.Tie.{close}
 
@@ -52,56 +54,56 @@ distinct-μ-loop recs text from n i₀ left₀ i left = left
 
 -- what is known of the functions that `distinct` calls
 abbrev distinct-knows : ℕ → distinct-lts.Claims
-distinct-knows t = (span-at-reads.Asked, span-at-reads.Learnt, alone-reads.Asked, alone-reads.Learnt, distinct-in-below t, distinct-in.Post)
+distinct-knows t = (span-within-reads.Asked, span-within-reads.Learnt, alone-reads.Asked, alone-reads.Learnt, distinct-in-below t, distinct-in.Post)
 
 distinct-loop-holds : (t : ℕ) → distinct-lts.Need-loop-holds (distinct-knows t) (distinct-at t) distinct.Post distinct-Inv-loop distinct-μ-loop
 distinct-loop-holds t c = (omega arith, λ r h. h)
 
-distinct-span-at-requires : (t : ℕ) → distinct-lts.Need-span-at-requires (distinct-knows t) (distinct-at t) distinct.Post distinct-Inv-loop distinct-μ-loop
-distinct-span-at-requires t c κs = search needs
+distinct-span-within-requires : (t : ℕ) → distinct-lts.Need-span-within-requires (distinct-knows t) (distinct-at t) distinct.Post distinct-Inv-loop distinct-μ-loop
+distinct-span-within-requires t c κs = search needs
 
 distinct-returns : (t : ℕ) → distinct-lts.Need-returns (distinct-knows t) (distinct-at t) distinct.Post distinct-Inv-loop distinct-μ-loop
-distinct-returns t c = let l = c .before .before .before .loop in l .inv .1 false (distinct-stuck (c .before .before .before .before .before .before .args .recs .now) (c .before .before .before .before .before .before .args .text .now) (l .i) (l .left) (record { byte = λ k. omega (arith, c .before .before .before .before .before .shared-slice-known .given k) }) (omega arith) _ (c .before .span-at .ensures) (c .if1 .taken))
+distinct-returns t c = let l = c .before .before .before .loop in l .inv .1 false (distinct-stuck (c .before .before .before .before .before .before .args .recs .now) (c .before .before .before .before .before .before .args .text .now) (l .i) (l .left) (record { byte = λ k. omega (arith, c .before .before .before .before .before .shared-slice-known .given k) }) (omega arith) _ (span-at-of _ _ _ _ (c .before .span-within .ensures)) (c .if1 .taken))
 
 distinct-alone-requires : (t : ℕ) → distinct-lts.Need-alone-requires (distinct-knows t) (distinct-at t) distinct.Post distinct-Inv-loop distinct-μ-loop
-distinct-alone-requires t c κs = c .before .span-at .ensures .good (c .if1 .left)
+distinct-alone-requires t c κs = span-at-of _ _ _ _ (c .before .span-within .ensures) .good (c .if1 .left)
 
 distinct-returns-2 : (t : ℕ) → distinct-lts.Need-returns-2 (distinct-knows t) (distinct-at t) distinct.Post distinct-Inv-loop distinct-μ-loop
-distinct-returns-2 t c = let l = c .before .before .before .before .before .loop in l .inv .1 false (distinct-twice (c .before .before .before .before .before .before .before .before .args .recs .now) (c .before .before .before .before .before .before .before .before .args .text .now) (l .i) (l .left) (record { byte = λ k. omega (arith, c .before .before .before .before .before .before .before .shared-slice-known .given k) }) (omega arith) _ (c .before .before .before .span-at .ensures .good (c .before .before .if1 .left)) (rw (not-true (c .before .alone .result) (c .if2 .taken)) at (c .before .alone .ensures)))
+distinct-returns-2 t c = let l = c .before .before .before .before .before .loop in l .inv .1 false (distinct-twice (c .before .before .before .before .before .before .before .before .args .recs .now) (c .before .before .before .before .before .before .before .before .args .text .now) (l .i) (l .left) (record { byte = λ k. omega (arith, c .before .before .before .before .before .before .before .shared-slice-known .given k) }) (omega arith) _ (span-at-of _ _ _ _ (c .before .before .before .span-within .ensures) .good (c .before .before .if1 .left)) (rw (not-true (c .before .alone .result) (c .if2 .taken)) at (c .before .alone .ensures)))
 
 distinct-distinct-in-requires : (t : ℕ) → distinct-lts.Need-distinct-in-requires (distinct-knows t) (distinct-at t) distinct.Post distinct-Inv-loop distinct-μ-loop
-distinct-distinct-in-requires t c κs = let S = c .before .before .before .span-at .ensures .good (c .before .before .if1 .left) in (omega (arith, c .before .before .before .before .before .before .before .before .pre .0), record { head = S .head; some = S .some; few = le-refl _; within = S .within; is = S .is })
+distinct-distinct-in-requires t c κs = let S = span-at-of _ _ _ _ (c .before .before .before .span-within .ensures) .good (c .before .before .if1 .left) in (omega (arith, c .before .before .before .before .before .before .before .before .pre .0), record { head = S .head; some = S .some; few = le-refl _; within = S .within; is = S .is })
 
 distinct-returns-3 : (t : ℕ) → distinct-lts.Need-returns-3 (distinct-knows t) (distinct-at t) distinct.Post distinct-Inv-loop distinct-μ-loop
-distinct-returns-3 t c = let l = c .before .before .before .before .before .before .before .loop in l .inv .1 false (distinct-inner (c .before .before .before .before .before .before .before .before .before .before .args .recs .now) (c .before .before .before .before .before .before .before .before .before .before .args .text .now) (l .i) (l .left) (record { byte = λ k. omega (arith, c .before .before .before .before .before .before .before .before .before .shared-slice-known .given k) }) (omega arith) _ (c .before .before .before .before .before .span-at .ensures .good (c .before .before .before .before .if1 .left)) (rw (not-true (c .before .distinct-in .result) (c .if3 .taken)) at (c .before .distinct-in .ensures)))
+distinct-returns-3 t c = let l = c .before .before .before .before .before .before .before .loop in l .inv .1 false (distinct-inner (c .before .before .before .before .before .before .before .before .before .before .args .recs .now) (c .before .before .before .before .before .before .before .before .before .before .args .text .now) (l .i) (l .left) (record { byte = λ k. omega (arith, c .before .before .before .before .before .before .before .before .before .shared-slice-known .given k) }) (omega arith) _ (span-at-of _ _ _ _ (c .before .before .before .before .before .span-within .ensures) .good (c .before .before .before .before .if1 .left)) (rw (not-true (c .before .distinct-in .result) (c .if3 .taken)) at (c .before .distinct-in .ensures)))
 
 distinct-mul-i : (t : ℕ) → distinct-lts.Need-mul-i (distinct-knows t) (distinct-at t) distinct.Post distinct-Inv-loop distinct-μ-loop
-distinct-mul-i t c = let S = c .before .before .before .before .before .span-at .ensures .good (c .before .before .before .before .if1 .left) in omega arith
+distinct-mul-i t c = let S = span-at-of _ _ _ _ (c .before .before .before .before .before .span-within .ensures) .good (c .before .before .before .before .if1 .left) in omega arith
 
 distinct-add-i : (t : ℕ) → distinct-lts.Need-add-i (distinct-knows t) (distinct-at t) distinct.Post distinct-Inv-loop distinct-μ-loop
-distinct-add-i t c = let S = c .before .before .before .before .before .span-at .ensures .good (c .before .before .before .before .if1 .left) in omega arith
+distinct-add-i t c = let S = span-at-of _ _ _ _ (c .before .before .before .before .before .span-within .ensures) .good (c .before .before .before .before .if1 .left) in omega arith
 
 distinct-sub-left : (t : ℕ) → distinct-lts.Need-sub-left (distinct-knows t) (distinct-at t) distinct.Post distinct-Inv-loop distinct-μ-loop
-distinct-sub-left t c = let S = c .before .before .before .before .before .span-at .ensures .good (c .before .before .before .before .if1 .left) in omega arith
+distinct-sub-left t c = let S = span-at-of _ _ _ _ (c .before .before .before .before .before .span-within .ensures) .good (c .before .before .before .before .if1 .left) in omega arith
 
 distinct-loop-less : (t : ℕ) → distinct-lts.Need-loop-less (distinct-knows t) (distinct-at t) distinct.Post distinct-Inv-loop distinct-μ-loop
-distinct-loop-less t c = let S = c .before .before .before .before .before .span-at .ensures .good (c .before .before .before .before .if1 .left) in omega arith
+distinct-loop-less t c = let S = span-at-of _ _ _ _ (c .before .before .before .before .before .span-within .ensures) .good (c .before .before .before .before .if1 .left) in omega arith
 
 distinct-loop-again : (t : ℕ) → distinct-lts.Need-loop-again (distinct-knows t) (distinct-at t) distinct.Post distinct-Inv-loop distinct-μ-loop
-distinct-loop-again t c = let l = c .before .before .before .before .before .before .before .loop in let S = c .before .before .before .before .before .span-at .ensures .good (c .before .before .before .before .if1 .left) in (omega arith, λ r h. l .inv .1 r (distinct-more (c .before .before .before .before .before .before .before .before .before .before .args .recs .now) (c .before .before .before .before .before .before .before .before .before .before .args .text .now) (l .i) (l .left) (record { byte = λ k. omega (arith, c .before .before .before .before .before .before .before .before .before .shared-slice-known .given k) }) (omega arith) _ S r (rw (not-false (c .before .before .before .alone .result) (c .before .before .if2 .left)) at (c .before .before .before .alone .ensures)) (rw (not-false (c .before .distinct-in .result) (c .if3 .left)) at (c .before .distinct-in .ensures)) h))
+distinct-loop-again t c = let l = c .before .before .before .before .before .before .before .loop in let S = span-at-of _ _ _ _ (c .before .before .before .before .before .span-within .ensures) .good (c .before .before .before .before .if1 .left) in (omega arith, λ r h. l .inv .1 r (distinct-more (c .before .before .before .before .before .before .before .before .before .before .args .recs .now) (c .before .before .before .before .before .before .before .before .before .before .args .text .now) (l .i) (l .left) (record { byte = λ k. omega (arith, c .before .before .before .before .before .before .before .before .before .shared-slice-known .given k) }) (omega arith) _ S r (rw (not-false (c .before .before .before .alone .result) (c .before .before .if2 .left)) at (c .before .before .before .alone .ensures)) (rw (not-false (c .before .distinct-in .result) (c .if3 .left)) at (c .before .distinct-in .ensures)) h))
 
 distinct-returns-4 : (t : ℕ) → distinct-lts.Need-returns-4 (distinct-knows t) (distinct-at t) distinct.Post distinct-Inv-loop distinct-μ-loop
 distinct-returns-4 t c = let l = c .before .loop in l .inv .1 true (distinct-end (c .before .before .before .before .args .recs .now) (c .before .before .before .before .args .text .now) (l .i) (l .left) (omega arith))
 
 -- what is known of the functions that `distinct-in` calls
 abbrev distinct-in-knows : ℕ → distinct-in-lts.Claims
-distinct-in-knows t = (number-reads.Asked, number-reads.Learnt, distinct-below t, distinct.Post)
+distinct-in-knows t = (kind-at-reads.Asked, kind-at-reads.Learnt, distinct-below t, distinct.Post)
 
-distinct-in-number-requires : (t : ℕ) → distinct-in-lts.Need-number-requires (distinct-in-knows t) (distinct-in-at t) distinct-in.Post
-distinct-in-number-requires t c κs = omega (arith, c .before .before .pre .1)
+distinct-in-kind-at-requires : (t : ℕ) → distinct-in-lts.Need-kind-at-requires (distinct-in-knows t) (distinct-in-at t) distinct-in.Post
+distinct-in-kind-at-requires t c κs = search needs
 
 distinct-in-returns : (t : ℕ) → distinct-in-lts.Need-returns (distinct-in-knows t) (distinct-in-at t) distinct-in.Post
-distinct-in-returns t c = distinct-basic (c .before .before .before .before .args .recs .now) (c .before .before .before .before .args .text .now) (c .before .before .before .before .args .i) (c .before .before .before .before .args .span) _ (c .before .before .before .before .pre .1 .is) (c .before .number .ensures) (c .if1 .taken)
+distinct-in-returns t c = distinct-basic (c .before .before .before .before .args .recs .now) (c .before .before .before .before .args .text .now) (c .before .before .before .before .args .i) (c .before .before .before .before .args .span) _ (c .before .before .before .before .pre .1 .is) (c .before .kind-at .ensures .0 ∙ word-in 2 _ _ (omega (arith, c .before .before .before .before .pre .1 .head))) (c .if1 .taken)
 
 distinct-in-add-distinct : (t : ℕ) → distinct-in-lts.Need-add-distinct (distinct-in-knows t) (distinct-in-at t) distinct-in.Post
 distinct-in-add-distinct t c = omega (arith, c .before .before .before .before .pre .1)
@@ -113,12 +115,12 @@ distinct-in-distinct-requires : (t : ℕ) → distinct-in-lts.Need-distinct-requ
 distinct-in-distinct-requires t c κs = (omega (arith, c .before .before .before .before .pre .0, c .before .before .before .before .pre .1), tt)
 
 distinct-in-returns-2 : (t : ℕ) → distinct-in-lts.Need-returns-2 (distinct-in-knows t) (distinct-in-at t) distinct-in.Post
-distinct-in-returns-2 t c = distinct-component (c .before .before .before .before .before .args .recs .now) (c .before .before .before .before .before .args .text .now) (c .before .before .before .before .before .args .i) (c .before .before .before .before .before .args .span) _ (c .before .before .before .before .before .pre .1 .is) (c .before .before .number .ensures) _ (c .before .if1 .left) (c .distinct .ensures)
+distinct-in-returns-2 t c = distinct-component (c .before .before .before .before .before .args .recs .now) (c .before .before .before .before .before .args .text .now) (c .before .before .before .before .before .args .i) (c .before .before .before .before .before .args .span) _ (c .before .before .before .before .before .pre .1 .is) (c .before .before .kind-at .ensures .0 ∙ word-in 2 _ _ (omega (arith, c .before .before .before .before .before .pre .1 .head))) _ (c .before .if1 .left) (c .distinct .ensures)
 
 pub +distinct+distinct-in-spec : {M : Type 1} → statement M
 +distinct+distinct-in-spec = close μ-distinct μ-distinct-in (λ t. distinct-lts.spec (
-  span-at-reads.Asked,
-  span-at-reads.Learnt,
+  span-within-reads.Asked,
+  span-within-reads.Learnt,
   alone-reads.Asked,
   alone-reads.Learnt,
   distinct-in-below t,
@@ -129,7 +131,7 @@ pub +distinct+distinct-in-spec : {M : Type 1} → statement M
     distinct-Inv-loop
     distinct-μ-loop
     (distinct-loop-holds t)
-    (distinct-span-at-requires t)
+    (distinct-span-within-requires t)
     (distinct-returns t)
     (distinct-alone-requires t)
     (distinct-returns-2 t)
@@ -142,10 +144,10 @@ pub +distinct+distinct-in-spec : {M : Type 1} → statement M
     (distinct-loop-again t)
     (distinct-returns-4 t))
     λ t. distinct-in-lts.spec
-    (number-reads.Asked, number-reads.Learnt, distinct-below t, distinct.Post)
+    (kind-at-reads.Asked, kind-at-reads.Learnt, distinct-below t, distinct.Post)
     (distinct-in-at t)
     distinct-in.Post
-    (distinct-in-number-requires t)
+    (distinct-in-kind-at-requires t)
     (distinct-in-returns t)
     (distinct-in-add-distinct t)
     (distinct-in-sub-distinct t)

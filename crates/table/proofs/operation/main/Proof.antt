@@ -25,10 +25,10 @@ enum-known-n : tie.Need-enum-known-n
 enum-known-n c = search needs
 
 records-of-requires : tie.Need-records-of-requires
-records-of-requires c κs = let S = rw (c .before .n .given .1) at (c .before .before .before .count .ensures) in (S .few, S .within)
+records-of-requires c κs = search needs
 
 text-of-requires : tie.Need-text-of-requires
-text-of-requires c κs = let S = rw (c .before .before .n .given .1) at (c .before .before .before .before .count .ensures) in (S .few, S .within)
+text-of-requires c κs = search needs
 
 main-in-requires : tie.Need-main-in-requires
 main-in-requires c κs = (rw (c .before .before .records-of .ensures, c .before .text-of .ensures) (tabled-of (c .before .before .before .before .before .before .before .before .before .before .before .before .args .table .now) _ (rw (c .before .before .before .before .n .given .1) at (c .before .before .before .before .before .before .count .ensures)) (sym (c .before .before .before .before .before .before .before .before .is-table .ensures) ∙ not-false _ (c .before .before .before .before .before .before .before .if2 .left))), c .before .before .before .before .before .before .before .before .before .if1 .left)

@@ -4,9 +4,11 @@ use Prim.Native.Nat.{_+_, _-_, _*_, _≤_}
 use native.Mathlib.Omega.{arith}
 use mathlib.Core.Path.{sym, _∙_}
 use borrow.Author.Tests.{not-true, not-false}
-use Rattle.table.specs.declared.walk.Walk.{Walk}
-use Rattle.table.specs.declared.walk.Walk.the-variants.{Walked, Wrong}
-use Rattle.table.specs.Walk.{WalkIs, entries-here}
+use Rattle.memory.proofs.Laws.{word-in}
+use Rattle.layout.specs.declared.walk.Walk.{Walk}
+use Rattle.layout.specs.declared.walk.Walk.the-variants.{Walked, Wrong}
+use Rattle.layout.specs.Walk.{WalkIs}
+use Rattle.table.specs.Walk.{entries-here}
 use Rattle.table.proofs.Heads.{head-of, entries-headless}
 use Rattle.table.proofs.Steps.{value-basic, value-valued, value-component, entries-end, entries-unnamed, entries-no, entries-more}
 use borrow.Author.Needs.{needs}
@@ -19,11 +21,12 @@ use Rattle.table.proofs.walk.+entries+value.Lts-entries as entries-lts
 use Rattle.table.proofs.walk.value.Reads as value
 use Rattle.table.proofs.walk.value.Kinds as value-kinds
 use Rattle.table.proofs.walk.+entries+value.Lts-value as value-lts
-use Rattle.table.proofs.text.number.Reads as number-reads
-use Rattle.table.proofs.walk.basic.Reads as basic-reads
+use Rattle.layout.proofs.kind_at.Reads as kind-at-reads
+use Rattle.layout.proofs.span_at.Reads as span-at-reads
+use Rattle.layout.proofs.basic.Reads as basic-reads
 use Rattle.table.proofs.walk.head.Reads as head-reads
 use Rattle.table.proofs.walk.label_end.Reads as label-end-reads
-use Rattle.table.proofs.row.value_of.Reads as value-of-reads
+use Rattle.layout.proofs.value_at.Reads as value-at-reads
 use Rattle.table.proofs.walk.+entries+value.{statement}
 use Rattle.table.proofs.walk.+entries+value.Tie.{close}
 
@@ -53,7 +56,7 @@ entries-μ-loop recs text depth n first from i₀ p₀ left₀ i p left = left
 
 -- what is known of the functions that `entries` calls
 abbrev entries-knows : ℕ → entries-lts.Claims
-entries-knows t = (head-reads.Asked, head-reads.Learnt, number-reads.Asked, number-reads.Learnt, label-end-reads.Asked, label-end-reads.Learnt, value-below t, value.Post)
+entries-knows t = (head-reads.Asked, head-reads.Learnt, span-at-reads.Asked, span-at-reads.Learnt, label-end-reads.Asked, label-end-reads.Learnt, value-below t, value.Post)
 
 entries-loop-holds : (t : ℕ) → entries-lts.Need-loop-holds (entries-knows t) (entries-at t) entries.Post entries-Inv-loop entries-μ-loop
 entries-loop-holds t c = (omega arith, λ r h. h)
@@ -64,11 +67,8 @@ entries-head-requires t c κs = search needs
 entries-returns : (t : ℕ) → entries-lts.Need-returns (entries-knows t) (entries-at t) entries.Post entries-Inv-loop entries-μ-loop
 entries-returns t c = let l = c .before .before .before .loop in l .inv .1 Wrong (entries-headless (c .before .before .before .before .before .before .args .recs .now) (c .before .before .before .before .before .before .args .text .now) (l .i) (l .p) (c .before .before .before .before .before .before .args .depth) (record { byte = λ k. omega (arith, c .before .before .before .before .before .shared-slice-known .given k) }) (l .left) (omega arith) (sym (c .before .head .ensures) ∙ not-true _ (c .if1 .taken)))
 
-entries-add-number : (t : ℕ) → entries-lts.Need-add-number (entries-knows t) (entries-at t) entries.Post entries-Inv-loop entries-μ-loop
-entries-add-number t c = let l = c .before .before .before .loop in let H = head-of (c .before .before .before .before .before .before .args .recs .now) (l .i) (c .before .before .before .before .before .before .args .depth) (l .left) (sym (c .before .head .ensures) ∙ not-false _ (c .if1 .left)) in omega arith
-
-entries-number-requires : (t : ℕ) → entries-lts.Need-number-requires (entries-knows t) (entries-at t) entries.Post entries-Inv-loop entries-μ-loop
-entries-number-requires t c κs = let l = c .before .before .before .loop in let H = head-of (c .before .before .before .before .before .before .args .recs .now) (l .i) (c .before .before .before .before .before .before .args .depth) (l .left) (sym (c .before .head .ensures) ∙ not-false _ (c .if1 .left)) in omega arith
+entries-span-at-requires : (t : ℕ) → entries-lts.Need-span-at-requires (entries-knows t) (entries-at t) entries.Post entries-Inv-loop entries-μ-loop
+entries-span-at-requires t c κs = search needs
 
 entries-label-end-requires : (t : ℕ) → entries-lts.Need-label-end-requires (entries-knows t) (entries-at t) entries.Post entries-Inv-loop entries-μ-loop
 entries-label-end-requires t c κs = let l = c .before .before .before .before .loop in let H = head-of (c .before .before .before .before .before .before .before .args .recs .now) (l .i) (c .before .before .before .before .before .before .before .args .depth) (l .left) (sym (c .before .before .head .ensures) ∙ not-false _ (c .before .if1 .left)) in H .within
@@ -77,19 +77,19 @@ entries-enum-known-q : (t : ℕ) → entries-lts.Need-enum-known-q (entries-know
 entries-enum-known-q t c = search needs
 
 entries-value-requires : (t : ℕ) → entries-lts.Need-value-requires (entries-knows t) (entries-at t) entries.Post entries-Inv-loop entries-μ-loop
-entries-value-requires t c κs = let l = c .before .before .before .before .before .before .before .before .loop in let H = head-of (c .before .before .before .before .before .before .before .before .before .before .before .args .recs .now) (l .i) (c .before .before .before .before .before .before .before .before .before .before .before .args .depth) (l .left) (sym (c .before .before .before .before .before .before .head .ensures) ∙ not-false _ (c .before .before .before .before .before .if1 .left)) in (omega (arith, c .before .before .before .before .before .before .before .before .before .before .before .pre .0, c .before .before .before .before .number .ensures), record { within = H .within; deep = H .deep; some = omega (arith, c .before .before .before .before .number .ensures); spanned = c .before .before .before .before .number .ensures })
+entries-value-requires t c κs = let l = c .before .before .before .before .before .before .before .before .loop in let H = head-of (c .before .before .before .before .before .before .before .before .before .before .before .args .recs .now) (l .i) (c .before .before .before .before .before .before .before .before .before .before .before .args .depth) (l .left) (sym (c .before .before .before .before .before .before .head .ensures) ∙ not-false _ (c .before .before .before .before .before .if1 .left)) in (omega (arith, c .before .before .before .before .before .before .before .before .before .before .before .pre .0, (c .before .before .before .before .span-at .ensures .0 ∙ word-in 2 _ _ (omega (arith, H .within)))), record { within = H .within; deep = H .deep; some = omega (arith, (c .before .before .before .before .span-at .ensures .0 ∙ word-in 2 _ _ (omega (arith, H .within)))); spanned = (c .before .before .before .before .span-at .ensures .0 ∙ word-in 2 _ _ (omega (arith, H .within))) })
 
 entries-enum-known-next : (t : ℕ) → entries-lts.Need-enum-known-next (entries-knows t) (entries-at t) entries.Post entries-Inv-loop entries-μ-loop
 entries-enum-known-next t c = search needs
 
 entries-sub-left : (t : ℕ) → entries-lts.Need-sub-left (entries-knows t) (entries-at t) entries.Post entries-Inv-loop entries-μ-loop
-entries-sub-left t c = let l = c .before .before .before .before .before .before .before .before .before .before .before .before .loop in let H = head-of (c .before .before .before .before .before .before .before .before .before .before .before .before .before .before .before .args .recs .now) (l .i) (c .before .before .before .before .before .before .before .before .before .before .before .before .before .before .before .args .depth) (l .left) (sym (c .before .before .before .before .before .before .before .before .before .before .head .ensures) ∙ not-false _ (c .before .before .before .before .before .before .before .before .before .if1 .left)) in omega (arith, c .before .before .before .before .before .before .before .before .number .ensures)
+entries-sub-left t c = let l = c .before .before .before .before .before .before .before .before .before .before .before .before .loop in let H = head-of (c .before .before .before .before .before .before .before .before .before .before .before .before .before .before .before .args .recs .now) (l .i) (c .before .before .before .before .before .before .before .before .before .before .before .before .before .before .before .args .depth) (l .left) (sym (c .before .before .before .before .before .before .before .before .before .before .head .ensures) ∙ not-false _ (c .before .before .before .before .before .before .before .before .before .if1 .left)) in omega (arith, (c .before .before .before .before .before .before .before .before .span-at .ensures .0 ∙ word-in 2 _ _ (omega (arith, H .within))))
 
 entries-loop-less : (t : ℕ) → entries-lts.Need-loop-less (entries-knows t) (entries-at t) entries.Post entries-Inv-loop entries-μ-loop
-entries-loop-less t c = let l = c .before .before .before .before .before .before .before .before .before .before .before .before .loop in let H = head-of (c .before .before .before .before .before .before .before .before .before .before .before .before .before .before .before .args .recs .now) (l .i) (c .before .before .before .before .before .before .before .before .before .before .before .before .before .before .before .args .depth) (l .left) (sym (c .before .before .before .before .before .before .before .before .before .before .head .ensures) ∙ not-false _ (c .before .before .before .before .before .before .before .before .before .if1 .left)) in omega (arith, c .before .before .before .before .before .before .before .before .number .ensures)
+entries-loop-less t c = let l = c .before .before .before .before .before .before .before .before .before .before .before .before .loop in let H = head-of (c .before .before .before .before .before .before .before .before .before .before .before .before .before .before .before .args .recs .now) (l .i) (c .before .before .before .before .before .before .before .before .before .before .before .before .before .before .before .args .depth) (l .left) (sym (c .before .before .before .before .before .before .before .before .before .before .head .ensures) ∙ not-false _ (c .before .before .before .before .before .before .before .before .before .if1 .left)) in omega (arith, (c .before .before .before .before .before .before .before .before .span-at .ensures .0 ∙ word-in 2 _ _ (omega (arith, H .within))))
 
 entries-loop-again : (t : ℕ) → entries-lts.Need-loop-again (entries-knows t) (entries-at t) entries.Post entries-Inv-loop entries-μ-loop
-entries-loop-again t c = let l = c .before .before .before .before .before .before .before .before .before .before .before .before .loop in let H = head-of (c .before .before .before .before .before .before .before .before .before .before .before .before .before .before .before .args .recs .now) (l .i) (c .before .before .before .before .before .before .before .before .before .before .before .before .before .before .before .args .depth) (l .left) (sym (c .before .before .before .before .before .before .before .before .before .before .head .ensures) ∙ not-false _ (c .before .before .before .before .before .before .before .before .before .if1 .left)) in (omega arith, λ r h. l .inv .1 r (entries-more (c .before .before .before .before .before .before .before .before .before .before .before .before .before .before .before .args .recs .now) (c .before .before .before .before .before .before .before .before .before .before .before .before .before .before .before .args .text .now) (c .before .before .before .before .before .before .before .before .before .before .before .before .before .before .before .args .depth) (l .left) (l .i) (l .p) (record { byte = λ k. omega (arith, c .before .before .before .before .before .before .before .before .before .before .before .before .before .before .shared-slice-known .given k) }) H _ (rw (c .before .before .before .before .before .q .given .1) at (c .before .before .before .before .before .before .before .label-end .ensures)) _ (c .before .before .before .before .before .before .before .before .number .ensures) _ _ r (rw (c .before .next .given .1) at (c .before .before .before .value .ensures)) h))
+entries-loop-again t c = let l = c .before .before .before .before .before .before .before .before .before .before .before .before .loop in let H = head-of (c .before .before .before .before .before .before .before .before .before .before .before .before .before .before .before .args .recs .now) (l .i) (c .before .before .before .before .before .before .before .before .before .before .before .before .before .before .before .args .depth) (l .left) (sym (c .before .before .before .before .before .before .before .before .before .before .head .ensures) ∙ not-false _ (c .before .before .before .before .before .before .before .before .before .if1 .left)) in (omega arith, λ r h. l .inv .1 r (entries-more (c .before .before .before .before .before .before .before .before .before .before .before .before .before .before .before .args .recs .now) (c .before .before .before .before .before .before .before .before .before .before .before .before .before .before .before .args .text .now) (c .before .before .before .before .before .before .before .before .before .before .before .before .before .before .before .args .depth) (l .left) (l .i) (l .p) (record { byte = λ k. omega (arith, c .before .before .before .before .before .before .before .before .before .before .before .before .before .before .shared-slice-known .given k) }) H _ (rw (c .before .before .before .before .before .q .given .1) at (c .before .before .before .before .before .before .before .label-end .ensures)) _ (c .before .before .before .before .before .before .before .before .span-at .ensures .0 ∙ word-in 2 _ _ (omega (arith, H .within))) _ _ r (rw (c .before .next .given .1) at (c .before .before .before .value .ensures)) h))
 
 entries-enum-told : (t : ℕ) → entries-lts.Need-enum-told (entries-knows t) (entries-at t) entries.Post entries-Inv-loop entries-μ-loop
 entries-enum-told t c = search needs
@@ -108,22 +108,22 @@ entries-returns-4 t c = let l = c .before .loop in l .inv .1 (Walked (l .i) (l .
 
 -- what is known of the functions that `value` calls
 abbrev value-knows : ℕ → value-lts.Claims
-value-knows t = (number-reads.Asked, number-reads.Learnt, basic-reads.Asked, basic-reads.Learnt, value-of-reads.Asked, value-of-reads.Learnt, entries-below t, entries.Post)
+value-knows t = (kind-at-reads.Asked, kind-at-reads.Learnt, basic-reads.Asked, basic-reads.Learnt, value-at-reads.Asked, value-at-reads.Learnt, entries-below t, entries.Post)
 
-value-number-requires : (t : ℕ) → value-lts.Need-number-requires (value-knows t) (value-at t) value.Post
-value-number-requires t c κs = omega (arith, c .before .before .pre .1 .within)
+value-kind-at-requires : (t : ℕ) → value-lts.Need-kind-at-requires (value-knows t) (value-at t) value.Post
+value-kind-at-requires t c κs = search needs
 
 value-basic-requires : (t : ℕ) → value-lts.Need-basic-requires (value-knows t) (value-at t) value.Post
-value-basic-requires t c κs = c .before .before .before .before .pre .1
+value-basic-requires t c κs = search needs
 
 value-returns : (t : ℕ) → value-lts.Need-returns (value-knows t) (value-at t) value.Post
-value-returns t c = value-basic (c .before .before .before .before .before .args .recs .now) (c .before .before .before .before .before .args .text .now) (c .before .before .before .before .before .args .depth) (c .before .before .before .before .before .args .span) (c .before .before .before .before .before .args .i) (c .before .before .before .before .before .args .p) (c .before .before .before .before .before .pre .1 .spanned) _ (c .before .before .number .ensures) (c .basic .result) (c .before .if1 .taken) (c .basic .ensures)
+value-returns t c = value-basic (c .before .before .before .before .before .args .recs .now) (c .before .before .before .before .before .args .text .now) (c .before .before .before .before .before .args .depth) (c .before .before .before .before .before .args .span) (c .before .before .before .before .before .args .i) (c .before .before .before .before .before .args .p) (record { byte = λ k. omega (arith, c .before .before .before .before .shared-slice-known .given k) }) (c .before .before .before .before .before .pre .1 .within) (c .before .before .before .before .before .pre .1 .spanned) _ (c .before .before .kind-at .ensures .0) (c .basic .result) (c .before .if1 .taken) (c .basic .ensures .0)
 
-value-value-of-requires : (t : ℕ) → value-lts.Need-value-of-requires (value-knows t) (value-at t) value.Post
-value-value-of-requires t c κs = c .before .before .before .before .pre .1 .within
+value-value-at-requires : (t : ℕ) → value-lts.Need-value-at-requires (value-knows t) (value-at t) value.Post
+value-value-at-requires t c κs = search needs
 
 value-returns-2 : (t : ℕ) → value-lts.Need-returns-2 (value-knows t) (value-at t) value.Post
-value-returns-2 t c = value-valued (c .before .before .before .before .before .before .args .recs .now) (c .before .before .before .before .before .before .args .text .now) (c .before .before .before .before .before .before .args .depth) (c .before .before .before .before .before .before .args .span) (c .before .before .before .before .before .before .args .i) (c .before .before .before .before .before .before .args .p) (c .before .before .before .before .before .before .pre .1 .spanned) _ (c .before .before .before .number .ensures) _ (c .before .value-of .ensures) (c .before .before .if1 .left) (c .if2 .taken)
+value-returns-2 t c = value-valued (c .before .before .before .before .before .before .args .recs .now) (c .before .before .before .before .before .before .args .text .now) (c .before .before .before .before .before .before .args .depth) (c .before .before .before .before .before .before .args .span) (c .before .before .before .before .before .before .args .i) (c .before .before .before .before .before .before .args .p) (record { byte = λ k. omega (arith, c .before .before .before .before .before .shared-slice-known .given k) }) (c .before .before .before .before .before .before .pre .1 .within) (c .before .before .before .before .before .before .pre .1 .spanned) _ (c .before .before .before .kind-at .ensures .0) _ (c .before .value-at .ensures) (c .before .before .if1 .left) (c .if2 .taken)
 
 value-add-entries : (t : ℕ) → value-lts.Need-add-entries (value-knows t) (value-at t) value.Post
 value-add-entries t c = omega (arith, c .before .before .before .before .before .before .pre .1)
@@ -138,14 +138,14 @@ value-entries-requires : (t : ℕ) → value-lts.Need-entries-requires (value-kn
 value-entries-requires t c κs = (omega (arith, c .before .before .before .before .before .before .pre .0, c .before .before .before .before .before .before .pre .1), tt)
 
 value-returns-3 : (t : ℕ) → value-lts.Need-returns-3 (value-knows t) (value-at t) value.Post
-value-returns-3 t c = value-component (c .before .before .before .before .before .before .before .args .recs .now) (c .before .before .before .before .before .before .before .args .text .now) (c .before .before .before .before .before .before .before .args .depth) (c .before .before .before .before .before .before .before .args .span) (c .before .before .before .before .before .before .before .args .i) (c .before .before .before .before .before .before .before .args .p) (c .before .before .before .before .before .before .before .pre .1 .spanned) _ (c .before .before .before .before .number .ensures) _ (c .before .before .value-of .ensures) (c .before .before .before .if1 .left) (c .entries .result) (c .before .if2 .left) (c .entries .ensures)
+value-returns-3 t c = value-component (c .before .before .before .before .before .before .before .args .recs .now) (c .before .before .before .before .before .before .before .args .text .now) (c .before .before .before .before .before .before .before .args .depth) (c .before .before .before .before .before .before .before .args .span) (c .before .before .before .before .before .before .before .args .i) (c .before .before .before .before .before .before .before .args .p) (record { byte = λ k. omega (arith, c .before .before .before .before .before .before .shared-slice-known .given k) }) (c .before .before .before .before .before .before .before .pre .1 .within) (c .before .before .before .before .before .before .before .pre .1 .spanned) _ (c .before .before .before .before .kind-at .ensures .0) _ (c .before .before .value-at .ensures) (c .before .before .before .if1 .left) (c .entries .result) (c .before .if2 .left) (c .entries .ensures)
 
 pub +entries+value-spec : {M : Type 1} → statement M
 +entries+value-spec = close μ-entries μ-value (λ t. entries-lts.spec (
   head-reads.Asked,
   head-reads.Learnt,
-  number-reads.Asked,
-  number-reads.Learnt,
+  span-at-reads.Asked,
+  span-at-reads.Learnt,
   label-end-reads.Asked,
   label-end-reads.Learnt,
   value-below t,
@@ -158,8 +158,7 @@ pub +entries+value-spec : {M : Type 1} → statement M
     (entries-loop-holds t)
     (entries-head-requires t)
     (entries-returns t)
-    (entries-add-number t)
-    (entries-number-requires t)
+    (entries-span-at-requires t)
     (entries-label-end-requires t)
     (entries-enum-known-q t)
     (entries-value-requires t)
@@ -173,21 +172,21 @@ pub +entries+value-spec : {M : Type 1} → statement M
     (entries-returns-3 t)
     (entries-returns-4 t))
     λ t. value-lts.spec (
-      number-reads.Asked,
-      number-reads.Learnt,
+      kind-at-reads.Asked,
+      kind-at-reads.Learnt,
       basic-reads.Asked,
       basic-reads.Learnt,
-      value-of-reads.Asked,
-      value-of-reads.Learnt,
+      value-at-reads.Asked,
+      value-at-reads.Learnt,
       entries-below t,
       entries.Post,
     )
     (value-at t)
     value.Post
-    (value-number-requires t)
+    (value-kind-at-requires t)
     (value-basic-requires t)
     (value-returns t)
-    (value-value-of-requires t)
+    (value-value-at-requires t)
     (value-returns-2 t)
     (value-add-entries t)
     (value-sub-entries t)

@@ -1,25 +1,17 @@
 -- `table::walk::label_end` meets its contract. Assumes nothing.
-use native.Mathlib.Omega.{arith}
-use Rattle.table.proofs.Heads.{label-elsewhere, label-is}
+use Rattle.table.proofs.Heads.{label-is}
 use borrow.Author.Needs.{needs}
 use Rattle.table.proofs.walk.label_end.Statement.{statement}
 use Rattle.table.proofs.walk.label_end.Tie as tie
 
-add-number : tie.Need-add-number
-add-number c = search needs
+label-at-requires : tie.Need-label-at-requires
+label-at-requires c κs = search needs
 
-number-requires : tie.Need-number-requires
-number-requires c κs = omega arith
+name-here-requires : tie.Need-name-here-requires
+name-here-requires c κs = search needs
 
 returns : tie.Need-returns
-returns c = label-elsewhere (c .before .before .before .before .args .recs .now) (c .before .before .before .before .args .text .now) (c .before .before .before .before .args .i) (c .before .before .before .before .args .p) _ (c .before .number .ensures) (c .if1 .taken)
-
-name-end-requires : tie.Need-name-end-requires
-name-end-requires c κs = search needs
-
-returns-2 : tie.Need-returns-2
-returns-2 c = label-is (c .before .before .before .before .before .args .recs .now) (c .before .before .before .before .before .args .text .now) (c .before .before .before .before .before .args .i) (c .before .before .before .before .before .args .p) _ (c .before .before .number .ensures) (c .before .if1 .left) (c .name-end .result) (c .name-end .ensures)
+returns c = label-is (c .before .before .before .before .args .recs .now) (c .before .before .before .before .args .text .now) (c .before .before .before .before .args .i) (c .before .before .before .before .args .p) _ (c .before .before .before .before .pre) (c .before .label-at .ensures .0) (c .name-here .result) (c .name-here .ensures)
 
 pub label-end-spec : {M : Type 1} → statement M
-label-end-spec =
-    tie.close (tie.spec add-number number-requires returns name-end-requires returns-2)
+label-end-spec = tie.close (tie.spec label-at-requires name-here-requires returns)

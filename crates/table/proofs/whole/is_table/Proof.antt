@@ -11,10 +11,10 @@ enum-known-n : tie.Need-enum-known-n
 enum-known-n c = search needs
 
 records-of-requires : tie.Need-records-of-requires
-records-of-requires c κs = let S = rw (c .before .n .given .1) at (c .before .before .before .count .ensures) in (S .few, S .within)
+records-of-requires c κs = search needs
 
 text-of-requires : tie.Need-text-of-requires
-text-of-requires c κs = let S = rw (c .before .before .n .given .1) at (c .before .before .before .before .count .ensures) in (S .few, S .within)
+text-of-requires c κs = search needs
 
 whole-requires : tie.Need-whole-requires
 whole-requires c κs = search needs

@@ -1,0 +1,4 @@
+pub mod Form
+pub mod Text
+pub mod Header
+pub mod Walk

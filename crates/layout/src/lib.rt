@@ -1,0 +1,30 @@
+// What tables and step lists share: the header, the texts, a record's numbers, and basics with their elements.
+mod field;
+mod form;
+mod header;
+mod text;
+mod walk;
+
+pub use field::depth_at;
+pub use field::kind_at;
+pub use field::label_at;
+pub use field::place_at;
+pub use field::span_at;
+pub use field::step_at;
+pub use field::value_at;
+pub use form::Form;
+pub use form::element_fits;
+pub use form::kind_of;
+pub use form::size;
+pub use header::Size;
+pub use header::count;
+pub use header::records_of;
+pub use header::text_of;
+pub use text::Past;
+pub use text::byte;
+pub use text::leaf;
+pub use text::name_here;
+pub use text::path_here;
+pub use walk::Walk;
+pub use walk::basic;
+pub use walk::head;

@@ -1,0 +1,4 @@
+pub mod Sizes
+pub mod Loads
+pub mod Values
+pub mod Stores

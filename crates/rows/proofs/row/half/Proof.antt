@@ -1,0 +1,43 @@
+-- `rows::row::half` meets its contract. Assumes nothing.
+use native.Mathlib.Omega.{arith}
+use Rattle.rows.proofs.Fields.{word-two}
+use borrow.Author.Needs.{needs}
+use Rattle.rows.proofs.row.half.Statement.{statement}
+use Rattle.rows.proofs.row.half.Tie as tie
+
+shared-slice-read-wide : tie.Need-shared-slice-read-wide
+shared-slice-read-wide c = search needs
+
+wide-requires : tie.Need-wide-requires
+wide-requires c κs = search needs
+
+add-wide : tie.Need-add-wide
+add-wide c = search needs
+
+shared-slice-read-wide-2 : tie.Need-shared-slice-read-wide-2
+shared-slice-read-wide-2 c = search needs
+
+wide-requires-2 : tie.Need-wide-requires-2
+wide-requires-2 c κs = search needs
+
+mul-result : tie.Need-mul-result
+mul-result c = search needs
+
+add-result : tie.Need-add-result
+add-result c = search needs
+
+returns : tie.Need-returns
+returns c = let a = c .before .before .before .before .before .args in (omega (arith, word-two (a .w .now) (a .at)), omega arith)
+
+pub half-spec : {M : Type 1} → statement M
+half-spec =
+    tie.close
+    (tie.spec
+    shared-slice-read-wide
+    wide-requires
+    add-wide
+    shared-slice-read-wide-2
+    wide-requires-2
+    mul-result
+    add-result
+    returns)

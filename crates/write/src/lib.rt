@@ -1,0 +1,6 @@
+// Rows as a table's bytes.
+mod record;
+mod table;
+mod text;
+
+pub use table::write;
