@@ -1,0 +1,17 @@
+pub mod Leading
+pub mod Walking
+pub mod Finding
+pub mod Putting
+pub mod Assigning
+pub mod Taking
+pub mod Lying
+pub mod Placing
+pub mod Stepping
+pub mod Valuing
+pub mod Evaluating
+pub mod Statements
+pub mod Prototypes
+pub mod Going
+pub mod Starting
+pub mod Running
+pub mod Ending
