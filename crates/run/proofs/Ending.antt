@@ -1,5 +1,5 @@
 -- From the store that the steps give to the answer, the output, and the work slices. Assumes nothing.
-use Prim.Native.Nat.{ℕ, _+_, _*_, _-_, _≤_, _<_}
+use Prim.Native.Nat.{ℕ, _+_, _-_, _≤_, _<_}
 use native.Mathlib.Omega.{arith}
 use mathlib.Core.Path.{_≡_, refl, sym, _∙_, ap, subst}
 use mathlib.Core.List.{List, [], _∷_, _++_}
@@ -9,9 +9,8 @@ use lib.Dec.{leb, lit≤}
 use borrow.Author.Tests.{le-leb, lt-leb, ne-eqb}
 use Rattle.paper.specs.Answer.{ok, refused, demand, _>>=_}
 use Rattle.paper.specs.Answer as Paper
-use Rattle.paper.specs.Syntax.{Block}
 use Rattle.paper.specs.Store.{Store}
-use Rattle.paper.specs.Meaning.{B⟦_⟧, main}
+use Rattle.paper.specs.Meaning.{B⟦_⟧}
 use Rattle.paper.specs.Layout.{Row, table}
 use Rattle.paper.specs.Steps.{steps, run}
 use Rattle.paper.specs.WellFormed.{IsTable, IsStepList}
@@ -24,9 +23,9 @@ use Rattle.paper.proofs.Decoded.Table.{table-exact}
 use Rattle.paper.proofs.Demands.Answers.{from}
 use Rattle.paper.proofs.Laws.Answers.{assoc, under}
 use Rattle.paper.proofs.Laws.Gives.{Gives, gives, refuses, gives-bind}
-use Rattle.paper.proofs.Legal.Bounds.{IsBounded, of-table, evaluates, evaluates-numbers}
+use Rattle.paper.proofs.Legal.Bounds.{Bounded, IsBounded, of-table, evaluates, evaluates-numbers}
 use Rattle.memory.specs.Memory.{stored}
-use Rattle.memory.proofs.Laws.{clear-wiped, length-zeros}
+use Rattle.memory.proofs.Laws.{clear-wiped}
 use Rattle.layout.specs.Header.{text-of}
 use Rattle.rows.specs.View.{view}
 use Rattle.write.specs.Tabled.{tabled, chosen, fitted}
@@ -37,7 +36,7 @@ use Rattle.run.specs.declared.operation.Answer.{Answer}
 use Rattle.run.specs.declared.operation.Answer.the-variants.{Done}
 use Rattle.run.specs.declared.operation.Answer.the-variants.{Refused as Not}
 use Rattle.run.specs.Puts.{Held}
-use Rattle.run.specs.Blocks.{WentIs, on, off, NextIn}
+use Rattle.run.specs.Blocks.{WentIs, on, off}
 use Rattle.run.specs.Runs.{store-of, whole-of, outcome, AnsweredIs, EvaluatedIs}
 
 -- ---- what became of the steps
@@ -72,26 +71,34 @@ module _ (list start w : List ℕ) (r : Went) (E : EvaluatedIs list start w r) w
   pub not-given : (k p : ℕ) → r ≡ Refused k p → store-of list start ≡ refused k p
   not-given k p e = halted (subst (EvaluatedIs list start w) e E .2)
 
+-- ---- a refusal, and a table
+
+pub refused-is : (a : Paper.Answer (List ℕ)) (o : List ℕ) (k p : ℕ) → a ≡ refused k p → AnsweredIs a o o (Not k p)
+unfolding told written
+refused-is a o k p e = (rw e, rw e)
+
+pub done-is : (a : Paper.Answer (List ℕ)) (s : Store) (b o o′ : List ℕ) (k : ℕ) → a ≡ ok (table s) → b ≡ table s → Bounded s → 32792 ≤ length o → o′ ≡ stored o 0 b → k ≡ fitted b o → AnsweredIs a o o′ (Done k)
+unfolding told written
+done-is a s b o o′ k e q B room f g =
+    let W = table-written s o (B .nodes) (B .text) room in
+    (rw e (ap ok (g ∙ ap (λ x. fitted x o) q ∙ W .1)), rw e (f ∙ ap (stored o 0) q ∙ W .0))
+
 -- ---- the whole table
 
 pub whole-refused : (a : Paper.Answer Store) (o : List ℕ) (k p : ℕ) → a ≡ refused k p → AnsweredIs (whole-of a) o o (Not k p)
-unfolding whole-of told written _>>=_
-whole-refused a o k p e = (rw e, rw e)
+unfolding whole-of _>>=_
+whole-refused a o k p e = refused-is (whole-of a) o k p (rw e)
 
 pub whole-done : (list start t u w o o′ : List ℕ) (n k : ℕ) → Given list start t u w n → 65536 ≤ length w → 32792 ≤ length o
     → o′ ≡ stored o 0 (tabled 0 (chosen t u w n 0 n)) → k ≡ fitted (tabled 0 (chosen t u w n 0 n)) o → AnsweredIs (whole-of (store-of list start)) o o′ (Done k)
-unfolding whole-of told written _>>=_
+unfolding whole-of _>>=_
 whole-done list start t u w o o′ n k G l room e f =
-    let s = G .store in
-    let q = chosen-store t u w n s (omega (arith, G .few)) (omega (arith, G .few)) (G .held .rows) in
-    let W = table-written s o (G .held .bounds .nodes) (G .held .bounds .text) room in
-    let a : k ≡ length (table s) = f ∙ ap (λ b. fitted b o) q ∙ W .1 in
-    let b : o′ ≡ table s ++ drop (length (table s)) o = e ∙ ap (stored o 0) q ∙ W .0 in
-    (rw (G .is) (ap ok a), rw (G .is) b)
+    let q = chosen-store t u w n (G .store) (omega (arith, G .few)) (omega (arith, G .few)) (G .held .rows) in
+    done-is (whole-of (store-of list start)) (G .store) (tabled 0 (chosen t u w n 0 n)) o o′ k (rw (G .is)) q (G .held .bounds) room e f
 
 -- ---- a refusal of the steps is none of 8
 
-any : {X : Type 0} {Q : ℕ → Type 0} {P : X → Type 0} (m : Paper.Answer X) → ((x : X) → m ≡ ok x → P x) → ((n p : ℕ) → m ≡ refused n p → Q n) → Gives Q P m
+pub any : {X : Type 0} {Q : ℕ → Type 0} {P : X → Type 0} (m : Paper.Answer X) → ((x : X) → m ≡ ok x → P x) → ((n p : ℕ) → m ≡ refused n p → Q n) → Gives Q P m
 any (ok x) f g = gives (f x refl)
 any (refused n p) f g = refuses (g n p refl)
 
@@ -165,13 +172,13 @@ part-wiped xs ys z h f e =
 -- ---- run
 
 module _ (list start : List ℕ) where
-  rest-is : whole-of (store-of list start) ≡ or-refused 9 (block-of list) >>= λ d. or-refused 10 (table-of start) >>= λ s. run (steps d) s >>= λ t. ok (table t)
-  unfolding whole-of store-of
-  rest-is = assoc (or-refused 9 (block-of list)) _ _ ∙ under (or-refused 9 (block-of list)) (λ d. assoc (or-refused 10 (table-of start)) _ _)
+  pub rest-is : {A : Type 0} (k : Store → Paper.Answer A) → store-of list start >>= k ≡ or-refused 9 (block-of list) >>= λ d. or-refused 10 (table-of start) >>= λ s. run (steps d) s >>= k
+  unfolding store-of
+  rest-is k = assoc (or-refused 9 (block-of list)) _ _ ∙ under (or-refused 9 (block-of list)) (λ d. assoc (or-refused 10 (table-of start)) _ _)
 
   pub run-settled : (o w₁ w₂ : List ℕ) → settled (whole-of (store-of list start)) o w₁ w₂ ≡ runs list start o w₁ w₂
-  unfolding settled lent runs run-op
-  run-settled o w₁ w₂ = ap (λ a. settled a o w₁ w₂) rest-is
+  unfolding settled lent runs run-op whole-of
+  run-settled o w₁ w₂ = ap (λ a. settled a o w₁ w₂) (rest-is (λ t. ok (table t)))
 
   pub run-gives : Gives (λ n. 8 < n) (λ _. Unit {0}) (whole-of (store-of list start))
   run-gives = whole-gives (store-of list start) (store-gives list start)

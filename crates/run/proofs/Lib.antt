@@ -15,3 +15,4 @@ pub mod Going
 pub mod Starting
 pub mod Running
 pub mod Ending
+pub mod Choosing

@@ -2,10 +2,8 @@
 use Prim.Native.Nat.{ℕ, suc, _+_, _*_, _≤_}
 use native.Mathlib.Omega.{arith}
 use native.Mathlib.Nat.{mul-le-mul-right}
-use mathlib.Core.Path.{_≡_, refl, sym, _∙_, ap, subst}
-use mathlib.Core.Bool.{Bool, true, not}
+use mathlib.Core.Path.{_≡_, refl, sym, _∙_, ap}
 use mathlib.Core.List.{List, [], _∷_, _++_, append-assoc, append-nil}
-use mathlib.Core.Option.{Option, none, some}
 use lib.ListN.{length, drop, length-append}
 use lib.Seq.{drop-at}
 use Rattle.paper.specs.Syntax.{Basic, boolean, null, integer, decimal, string, reference, vector, Basics, εⱽ, _∷ⱽ_, Block}
@@ -14,19 +12,15 @@ use Rattle.paper.specs.Layout.{Row, little, elements, each, rows, texts, record
 use Rattle.paper.specs.Steps.{Step, make, take, enter, leave, done, set, link, steps}
 use Rattle.paper.specs.StepLayout.{step-row, item, step-rows, all-rows, step-list}
 use Rattle.paper.specs.WellFormed.{IsTable, IsStepList}
-use Rattle.paper.specs.TableDecoder.{in-table, absent, table-of}
-use Rattle.paper.specs.StepDecoder.{in-steps, block-of}
+use Rattle.paper.specs.TableDecoder.{in-table}
+use Rattle.paper.specs.StepDecoder.{in-steps}
 use Rattle.paper.proofs.Decoded.Parts.{length-little}
 use Rattle.paper.proofs.Decoded.Header.{Lasts, lasts-++, records-length}
-use Rattle.paper.proofs.Decoded.StepList.{steps-exact}
-use Rattle.paper.proofs.Decoded.Table.{table-exact}
 use Rattle.memory.specs.Memory.{word-at, part-at}
 use Rattle.layout.specs.declared.form.Form.the-variants.{Table, Steps}
 use Rattle.layout.specs.Form.{form-of, size-of}
 use Rattle.layout.specs.Header.{records-of, text-of}
-use Rattle.table.specs.Whole.{is-table-of}
 use Rattle.table.proofs.Inside.{rows-lasts}
-use Rattle.steplist.specs.Whole.{is-step-list-of}
 use Rattle.rows.specs.View.{view}
 use Rattle.rows.specs.Search.{text-bytes}
 use Rattle.rows.proofs.Trees.{text-bytes-flat}

@@ -1,5 +1,5 @@
 -- The operation: what the code answers as the paper's answer, and what it must be. Assumes nothing.
-use Prim.Native.Nat.{ℕ, _≤_}
+use Prim.Native.Nat.{ℕ}
 use mathlib.Core.Path.{_≡_}
 use mathlib.Core.List.{List, [], _∷_}
 use lib.ListN.{length}
@@ -13,8 +13,10 @@ use Rattle.paper.specs.Steps.{steps, run}
 use Rattle.paper.specs.TableDecoder.{table-of}
 use Rattle.paper.specs.StepDecoder.{block-of}
 use Rattle.paper.specs.Operations.{Outcome, or-refused, told, written, cleared}
+use Rattle.paper.proofs.Legal.Bounds.{IsBounded}
 use Rattle.layout.specs.Header.{text-of}
 use Rattle.rows.specs.View.{view}
+use Rattle.rows.specs.Flat.{flat}
 use Rattle.run.specs.declared.block.Went.{Went}
 use Rattle.run.specs.declared.operation.Answer.{Answer}
 use Rattle.run.specs.declared.operation.Answer.the-variants.{Done, Refused}
@@ -76,3 +78,7 @@ AnsweredIs a output output′ r = (answered r ≡ told a) × (output′ ≡ writ
 -- the rows in w′ are the store's
 abbrev pub EvaluatedIs : List ℕ → List ℕ → List ℕ → Went → Type 0
 EvaluatedIs list start w′ r = (next : ℕ) × (NextIn 0 r) × WentIs (view (text-of list) (text-of start) w′) next (store-of list start) r
+
+-- what is made of rows that are a store's: the table of its `sfConfig`
+abbrev pub MainIs : List ℕ → List ℕ → List ℕ → ℕ → List ℕ → List ℕ → Answer → Type 0
+MainIs t u w n output output′ r = (s : Store) → IsBounded s → view t u w n ≡ flat 1 s → AnsweredIs (main-of (ok s)) output output′ r

@@ -1,4 +1,4 @@
-// Operation 2: step list and starting table to the whole table; and to the table of `sfConfig` at once.
+// Operation 2: step list and starting table to the whole table.
 use crate::block::Went;
 use crate::evaluate::evaluate;
 use layout::text_of;

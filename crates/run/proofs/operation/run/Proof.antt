@@ -1,5 +1,4 @@
 -- `run::operation::run` meets its contract. Assumes nothing.
-use native.Mathlib.Omega.{arith}
 use mathlib.Core.Path.{_∙_}
 use Rattle.run.specs.Runs.{store-of, whole-of}
 use Rattle.run.proofs.Ending.{output-short, first-short, second-short, all-settled, part-same, part-wiped, run-settled, run-gives}
