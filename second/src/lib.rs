@@ -2,10 +2,12 @@
 //!
 //! `operations` holds the four operations. Beneath it lie the scanner, the grammar reader,
 //! the steps compiler, the two layouts, the store, and two evaluators: `evaluate` over
-//! statements, after document 002, and `run` over steps. `generate` makes seeded test cases.
+//! statements, after document 002, and `run` over steps. `generate` makes seeded test cases,
+//! `trial` the cases of a program, `wave` descriptions to measure with; `dump` shows a table.
 
 pub mod act;
 pub mod checks;
+pub mod dump;
 pub mod evaluate;
 pub mod generate;
 pub mod grammar;
@@ -19,3 +21,5 @@ pub mod run;
 pub mod scan;
 pub mod steps;
 pub mod store;
+pub mod trial;
+pub mod wave;

@@ -1,9 +1,15 @@
 //! The command: the four operations over files and streams, and the generator of cases.
 
 use second::checks::{all_lines, all_packed, full_inputs, packed};
+use second::dump::dump;
 use second::generate::{cases, Kind};
+use second::layout_table::encode_table;
 use second::operations::{main_table, resolve, run, translate};
 use second::refusal::Refusal;
+use second::store::Store;
+use second::trial;
+use second::wave::{wave, worst};
+use std::hint::black_box;
 use std::io::{self, Read, Write};
 use std::process::ExitCode;
 
@@ -13,6 +19,11 @@ const USAGE: &str = "usage:
   second main < table > main-table
   second resolve < description > main-table
   second generate translate|run|main|resolve SEED COUNT [MAXBYTES]
+  second trial input|output
+  second dump < table > text
+  second wave VARIABLES PROTOTYPE SEED > description
+  second worst takes|siblings|paths|scopes > description
+  second rounds TRANSLATES RUNS < description
   second check-inputs > inputs
   second check-lines > lines
   second check-full 0|1|2 > input";
@@ -47,6 +58,15 @@ fn command(words: &[&str]) -> Option<Done> {
             .get(which.parse::<usize>().ok()?)
             .map(check_full),
         ["generate", wanted @ ..] => read_wanted(wanted).map(generate),
+        ["dump"] => Some(over_input(dump)),
+        ["wave", variables, prototype, seed] => {
+            let (variables, prototype) = (variables.parse().ok()?, prototype.parse().ok()?);
+            wave(variables, prototype, seed.parse().ok()?).map(|text| write_out(text.as_bytes()))
+        }
+        ["worst", name] => worst(name).map(|text| write_out(text.as_bytes())),
+        ["rounds", translates, runs] => Some(rounds(translates.parse().ok()?, runs.parse().ok()?)),
+        ["trial", "input"] => Some(write_out(&trial::input(&trial::trials()))),
+        ["trial", "output"] => Some(write_out(trial::output(&trial::trials()).as_bytes())),
         _ => None,
     }
 }
@@ -59,10 +79,38 @@ fn usage() -> ExitCode {
 type Done = Result<(), String>;
 
 fn over_input(operation: fn(&[u8]) -> Result<Vec<u8>, Refusal>) -> Done {
+    write_answer(operation(&read_input()?))
+}
+
+fn read_input() -> Result<Vec<u8>, String> {
     let mut input = Vec::new();
     let read = io::stdin().lock().read_to_end(&mut input);
     read.map_err(|error| format!("cannot read standard input: {error}"))?;
-    write_answer(operation(&input))
+    Ok(input)
+}
+
+/// The same work so many times over, so that one time is the difference of two counts.
+fn rounds(translates: usize, runs: usize) -> Done {
+    let source = read_input()?;
+    let table = encode_table(&Store::default());
+    for _ in 0..translates {
+        let answer = black_box(translate(black_box(&source)));
+        write_length(&answer)?;
+    }
+    let list = translate(&source).unwrap_or_default();
+    for _ in 0..runs {
+        let answer = black_box(run(black_box(&list), &table));
+        write_length(&answer)?;
+    }
+    Ok(())
+}
+
+fn write_length(answer: &Result<Vec<u8>, Refusal>) -> Done {
+    let length = answer
+        .as_ref()
+        .map(|output| format!("done {}", output.len()));
+    let line = length.unwrap_or_else(|refusal| refusal.to_string());
+    write_out(format!("{line}\n").as_bytes())
 }
 
 fn run_files(list: &str, table: &str) -> Done {

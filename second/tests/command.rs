@@ -76,7 +76,7 @@ fn a_refusal_is_one_line() {
 
 #[test]
 fn bad_words_give_the_usage() {
-    let rows: [&[&str]; 8] = [
+    let rows: [&[&str]; 14] = [
         &[],
         &["unknown"],
         &["translate", "more"],
@@ -85,6 +85,12 @@ fn bad_words_give_the_usage() {
         &["generate", "all", "1", "1"],
         &["generate", "run", "-1", "1"],
         &["generate", "run", "1", "1", ""],
+        &["trial"],
+        &["dump", "more"],
+        &["wave", "900", "100"],
+        &["wave", "2000", "100", "1"],
+        &["worst", "unknown"],
+        &["rounds", "1", "-1"],
     ];
     for words in rows {
         let output = second(words, b"");
@@ -116,4 +122,16 @@ fn generate_prints_so_many_lines() {
     assert!(text
         .lines()
         .all(|line| line.starts_with("main ") && line.contains(" = ")));
+}
+
+#[test]
+fn a_wave_is_resolved_and_shown() {
+    let source = second(&["wave", "60", "10", "1"], b"").stdout;
+    let table = second(&["resolve"], &source).stdout;
+    let text = String::from_utf8(second(&["dump"], &table).stdout).unwrap();
+    let attributes = text.lines().filter(|line| !line.starts_with(' '));
+    assert_eq!(attributes.count(), 60);
+    let lengths = second(&["rounds", "2", "1"], &source).stdout;
+    assert_eq!(String::from_utf8(lengths).unwrap().lines().count(), 3);
+    assert_eq!(second(&["dump"], b"").stdout, b"refused 10 at 0\n");
 }

@@ -7,7 +7,7 @@ mod draft;
 mod extremes;
 mod grow;
 mod lists;
-mod random;
+pub(crate) mod random;
 mod render;
 mod stores;
 mod words;

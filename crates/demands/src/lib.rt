@@ -1,0 +1,1 @@
+// Theorems only: what the operations' contracts come to together.
