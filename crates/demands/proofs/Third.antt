@@ -42,7 +42,7 @@ module _ (source list-out work start out w₁ w₂ : List ℕ) (s : Store) (n : 
     (r₁ : Translated) (list-out′ work′ : List ℕ) (translate-met : record { answer = T.answered r₁; output = list-out′; works = work′ ∷ [] } ≡ translates source list-out work)
     (r₂ : Ran) (out′ w₁′ w₂′ : List ℕ) (run-met : R.outcome r₂ out′ w₁′ w₂′ ≡ runs (take n list-out′) start out w₁ w₂)
     (accepted : T.answered r₁ ≡ ok n) (well-formed : IsTable start s) (l : 32792 ≤ length out) (l₁ : 65536 ≤ length w₁) (l₂ : 65536 ≤ length w₂) where
-  answer : Answer (List ℕ)
+  abbrev answer : Answer (List ℕ)
   answer = translate-op source (length list-out) (length work)
 
   found : Listed answer n
