@@ -36,7 +36,7 @@ use Rattle.run.specs.Stepping.{scope-in, ScopeKept, Target, NamesPut, Ma
 use Rattle.run.specs.Blocks.{Placed, KeptTo, WentIs, WentIs.on, WentIs.off, Stops, ComponentIs, StatementIs, StatementsAre, One, One.reference, One.braces, PrototypeIs, PrototypesAre}
 use Rattle.run.proofs.Lying.{Small, lies-first, lies-next, lies-label, lies-in, lies-end, lies-skip, small-make, small-take, small-enter, small-leave, small-done, small-link, small-set, small-set-head, AllSmall}
 use Rattle.run.proofs.Placing.{length-places, path-placed, last-placed, names-kept, names-joined, names-front}
-use Rattle.run.proofs.Stepping.{kept-fewer}
+use Rattle.run.proofs.Stepping.{word-drop}
 
 -- ---- rows of steps
 
@@ -233,10 +233,6 @@ pub ends : (r : Path) → 1 ≤ length r → Ends r
 ends [] h = absurd (omega arith)
 ends (x ∷ []) h = record { front = []; last = x; is = refl }
 ends (x ∷ (y ∷ r)) h = let E = ends (y ∷ r) (omega arith) in record { front = x ∷ E .front; last = E .last; is = ap (λ z. x ∷ z) (E .is) }
-
-word-drop : (n : ℕ) (s : List ℕ) (a x : ℕ) → a + (x + n) ≤ length s → word-at n (drop a s) x ≡ word-at n s (a + x)
-word-drop n s a x h =
-    word-in n (drop a s) x (simp length-drop (omega arith)) ∙ same-word n (drop a s) s x (a + x) (λ k l. let q : a + (x + k) ≡ a + x + k = omega arith in getD-drop a s (x + k) 0 ∙ ap (λ j. getD s j 0) q) ∙ sym (word-in n s (a + x) (omega arith))
 
 word-stored : (n : ℕ) (s : List ℕ) (at : ℕ) (b : List ℕ) (x : ℕ) → at + length b ≤ length s → x + n ≤ length b → word-at n (stored s at b) (at + x) ≡ word-at n b x
 word-stored n s at b x h l =

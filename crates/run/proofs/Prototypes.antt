@@ -284,9 +284,6 @@ block-split b ps rest =
     ap (λ x. all-rows x ++ rest) e ∙ ap (λ x. x ++ rest) (all-rows-++ (Steps.enter ∷ (steps b ++ (Steps.leave ∷ []))) (prototype-steps ps ++ (Steps.done ∷ [])))
     ∙ append-assoc (all-rows (Steps.enter ∷ (steps b ++ (Steps.leave ∷ [])))) (all-rows (prototype-steps ps ++ (Steps.done ∷ []))) rest
 
-no-rest : (a x : List Row) → a ++ [] ≡ x ++ [] → length a ≡ length x
-no-rest a x e = ap length (sym (append-nil a) ∙ e ∙ append-nil x)
-
 split-length : (ps one others : Prototypes) → ((rest : List Row) → all-rows (prototype-steps ps ++ (Steps.done ∷ [])) ++ rest ≡ all-rows (prototype-steps one) ++ (all-rows (prototype-steps others ++ (Steps.done ∷ [])) ++ rest))
     → length (all-rows (prototype-steps ps ++ (Steps.done ∷ []))) ≡ length (all-rows (prototype-steps one)) + length (all-rows (prototype-steps others ++ (Steps.done ∷ [])))
 split-length ps one others f =

@@ -16,6 +16,7 @@ use Rattle.rows.specs.View.{view, rows-in}
 use Rattle.rows.specs.Search.{seek, deeper, text-bytes}
 use Rattle.rows.specs.Change.{spliced}
 use Rattle.rows.specs.Flat.{flat, flat-value, Low}
+use Rattle.rows.proofs.Searches.{deeper-in}
 use Rattle.rows.proofs.Fields.{field-word}
 use Rattle.rows.proofs.Views.{length-view, row-here, here-size, view-cons, view-end, view-splice}
 use Rattle.paper.proofs.Laws.DecodeAt.{Bytes, word}
@@ -195,20 +196,11 @@ module _ (t u s : List ℕ) (m : ℕ) (new-few : m ≤ 4096) (new-room : m * 16 
 
 -- ---- from what the code's calls answer
 
-deeper-few : (d : ℕ) (xs : List Row) → deeper d xs ≤ length xs
-unfolding deeper if_then_else_
-deeper-few d [] = omega arith
-deeper-few d (x ∷ xs) = go (ltb (x .second) d) (deeper-few d xs)
-  where
-    go : (c : Bool) → deeper d xs ≤ length xs → (if c then 0 else suc (deeper d xs)) ≤ suc (length xs)
-    go true h = omega arith
-    go false h = omega arith
-
 module _ (t u w : List ℕ) (n : ℕ) (many : n ≤ 4096) (room : n * 16 ≤ length w) where
   pub end-in : (lo d e : ℕ) → lo ≤ n → e ≡ lo + deeper d (drop lo (rows-in t u w n)) → (lo ≤ e) × (e ≤ n)
   end-in lo d e h g =
       let k : length (drop lo (rows-in t u w n)) ≡ n - lo = length-drop lo (rows-in t u w n) ∙ ap (λ j. j - lo) (ap length (rows-view t u w n many room) ∙ length-view t u w n) in
-      (omega (arith, g), omega (arith, g, k, h, deeper-few d (drop lo (rows-in t u w n))))
+      (omega (arith, g), omega (arith, g, k, h, deeper-in d (drop lo (rows-in t u w n))))
 
   module _ (new ys : List Row) (lo d text text′ : ℕ) (name : Name) where
     abbrev xs₀ : List Row

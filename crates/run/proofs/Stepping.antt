@@ -130,7 +130,7 @@ kept-fewer s s′ t u k K h = sym (names-take t u (drop 32768 s′) 64 k h) ∙ 
 
 -- ---- the target, while other bytes change
 
-word-drop : (n : ℕ) (s : List ℕ) (a x : ℕ) → a + (x + n) ≤ length s → word-at n (drop a s) x ≡ word-at n s (a + x)
+pub word-drop : (n : ℕ) (s : List ℕ) (a x : ℕ) → a + (x + n) ≤ length s → word-at n (drop a s) x ≡ word-at n s (a + x)
 word-drop n s a x h =
     word-in n (drop a s) x (simp length-drop (omega arith)) ∙ same-word n (drop a s) s x (a + x) (λ k l. let q : a + (x + k) ≡ a + x + k = omega arith in getD-drop a s (x + k) 0 ∙ ap (λ j. getD s j 0) q) ∙ sym (word-in n s (a + x) (omega arith))
 

@@ -21,6 +21,7 @@ use Rattle.rows.specs.View.{name-of, groups, view, kept, rows-in}
 use Rattle.rows.specs.Search.{calls, seek}
 use Rattle.rows.specs.Change.{field-at}
 use Rattle.rows.specs.Flat.{flat, Low}
+use Rattle.rows.proofs.Searches.{seek-in}
 use Rattle.rows.proofs.Groups.{groups-cons, groups-end}
 use Rattle.rows.proofs.Views.{kept-is, length-view, row-here, view-cons}
 use Rattle.run.specs.declared.place.Place.{Place}
@@ -42,16 +43,6 @@ unfolding names
 names-end t u p k j h = groups-end 2 (λ b. name-of t u (word 2 b 0)) k j p h
 
 -- ---- what a look answers
-
-pub seek-in : (n : Name) (d : ℕ) (xs : List Row) (i j : ℕ) → seek n d xs i ≡ some j → (i ≤ j) × (j < i + length xs)
-unfolding seek if_then_else_
-seek-in n d [] i j e = absurd (let z : _≡_ {A = ℕ} 0 1 = cc in omega arith)
-seek-in n d (x ∷ xs) i j e = go (ltb (x .second) d) (eqb (x .second) d && calls (x .label) n) e (seek-in n d xs (suc i) j)
-  where
-    go : (a b : Bool) → (if a then none else if b then some i else seek n d xs (suc i)) ≡ some j → (seek n d xs (suc i) ≡ some j → (suc i ≤ j) × (j < suc i + length xs)) → (i ≤ j) × (j < i + suc (length xs))
-    go true b e again = absurd (let z : _≡_ {A = ℕ} 0 1 = cc in omega arith)
-    go false true e again = let q : i ≡ j = cc in (omega arith, omega arith)
-    go false false e again = (omega (arith, again e .0), omega (arith, again e .1))
 
 module _ (t u w : List ℕ) (n : ℕ) (many : n ≤ 4096) (room : n * 16 ≤ length w) where
   pub rows-view : rows-in t u w n ≡ view t u w n

@@ -1,3 +1,4 @@
+-- `run::block::begins` meets its contract. Assumes nothing.
 use mathlib.Core.Path.{sym, ap}
 use Rattle.run.specs.Blocks.{begins-statement}
 use Rattle.run.proofs.Going.{begins-last}

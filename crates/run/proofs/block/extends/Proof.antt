@@ -1,3 +1,4 @@
+-- `run::block::extends` meets its contract. Assumes nothing.
 use mathlib.Core.Path.{sym, ap}
 use Rattle.run.specs.Blocks.{begins-prototype}
 use Rattle.run.proofs.Going.{extends-last}

@@ -1,3 +1,4 @@
+-- `run::block::placed` meets its contract. Assumes nothing.
 use mathlib.Core.Path.{sym, _∙_, ap}
 use Rattle.run.specs.declared.block.Went.the-variants.{Refused}
 use Rattle.run.specs.Listed.{step-field}

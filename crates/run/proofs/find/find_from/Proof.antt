@@ -1,3 +1,4 @@
+-- `run::find::find_from` meets its contract. Assumes nothing.
 use Prim.Native.Nat.{_+_, _-_}
 use mathlib.Core.Path.{_∙_, ap, subst}
 use Rattle.rows.specs.View.{name-of, view}

@@ -1,3 +1,4 @@
+-- `run::put::put_bounded` meets its contract. Assumes nothing.
 use mathlib.Core.Path.{refl}
 use Rattle.run.proofs.Putting.{over-place, over-depth, over-nodes, over-text, within}
 use borrow.Author.Needs.{needs}

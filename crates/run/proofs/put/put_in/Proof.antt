@@ -1,3 +1,4 @@
+-- `run::put::put_in` meets its contract. Assumes nothing.
 use Prim.Native.Nat.{_+_, _*_, _≤_, _<_}
 use native.Mathlib.Omega.{arith}
 use mathlib.Core.Path.{sym, _∙_, ap}

@@ -1,3 +1,4 @@
+-- `run::step::put_names` meets its contract. Assumes nothing.
 use Rattle.run.proofs.Stepping.{names-none, names-some}
 use borrow.Author.Needs.{needs}
 use Rattle.run.proofs.step.put_names.Statement.{statement}

@@ -1,3 +1,4 @@
+-- `run::step::resolve_at` meets its contract. Assumes nothing.
 use Prim.Native.Nat.{_+_, _-_, _*_, _%_, _≤_, _<_}
 use native.Mathlib.Omega.{arith}
 use mathlib.Core.Path.{_≡_, refl, sym, _∙_, ap, subst}

@@ -1,3 +1,4 @@
+-- `run::step::set` meets its contract. Assumes nothing.
 use mathlib.Core.Path.{subst}
 use Rattle.run.proofs.Stepping.{cut, LabelRead, sets}
 use borrow.Author.Needs.{needs}
