@@ -161,6 +161,9 @@ part-same xs ys z e f =
     let k : length (take 65536 xs) + length (drop 65536 xs) ≡ length xs = sym (length-append (take 65536 xs) (drop 65536 xs)) ∙ ap length (take-append-drop 65536 xs) in
     f ∙ length-append ys (drop 65536 xs) ∙ ap (λ n. n + length (drop 65536 xs)) e ∙ k
 
+pub part-long : (xs : List ℕ) → 65536 ≤ length xs → 65536 ≤ length (take 65536 xs)
+part-long xs h = let l : length (take 65536 xs) ≡ 65536 = length-take-le 65536 xs h in omega arith
+
 pub part-wiped : (xs ys z : List ℕ) → 65536 ≤ length xs → length ys ≡ length (take 65536 xs) → z ≡ stored (ys ++ drop 65536 xs) 0 (zeros 65536) → z ≡ wiped xs
 unfolding wiped
 part-wiped xs ys z h f e =
@@ -168,6 +171,12 @@ part-wiped xs ys z h f e =
     let y : List ℕ = ys ++ drop 65536 xs in
     let k : length y ≡ length ys + (length xs - 65536) = length-append ys (drop 65536 xs) ∙ ap (λ n. length ys + n) (length-drop 65536 xs) in
     e ∙ clear-wiped y (omega arith) ∙ ap (λ x. zeros 65536 ++ x) (drop-at ys (drop 65536 xs) 65536 l)
+
+-- both work slices so, and the answer of the part
+pub ended : (a : Paper.Answer (List ℕ)) (o w₁ w₂ : List ℕ) (x : Outcome) → settled a o w₁ w₂ ≡ x → Gives (λ n. 8 < n) (λ _. Unit {0}) a → 32792 ≤ length o → 65536 ≤ length w₁ → 65536 ≤ length w₂
+    → (o′ y₁ w₁′ y₂ w₂′ : List ℕ) (r : Answer) → AnsweredIs a o o′ r → length y₁ ≡ length (take 65536 w₁) → w₁′ ≡ stored (y₁ ++ drop 65536 w₁) 0 (zeros 65536)
+    → length y₂ ≡ length (take 65536 w₂) → w₂′ ≡ stored (y₂ ++ drop 65536 w₂) 0 (zeros 65536) → outcome r o′ w₁′ w₂′ ≡ x
+ended a o w₁ w₂ x e g h l m o′ y₁ w₁′ y₂ w₂′ r A k₁ e₁ k₂ e₂ = all-settled a o w₁ w₂ h l m g o′ w₁′ w₂′ r A (part-wiped w₁ y₁ w₁′ l k₁ e₁) (part-wiped w₂ y₂ w₂′ m k₂ e₂) ∙ e
 
 -- ---- run
 
