@@ -15,10 +15,10 @@ use Rattle.paper.specs.Decoder.{record-at}
 use Rattle.paper.proofs.Laws.DecodeAt.{Bytes, word, raw-at, cursor, record-here, record-short}
 use Rattle.paper.proofs.Laws.DecodeFree.{basic-from, elements-from, element-body, elements-some}
 use Rattle.memory.proofs.Laws.{fit}
-use Rattle.layout.specs.declared.form.Form.{Form}
-use Rattle.layout.specs.Form.{form-of, size-of, fields, fits-in}
+use Rattle.forms.specs.declared.form.Form.{Form}
+use Rattle.forms.specs.Form.{form-of, size-of, fields, fits-in}
 use Rattle.layout.specs.Walk.{heads, basic-here, elements-here}
-use Rattle.layout.proofs.Forms.{fields-in}
+use Rattle.forms.proofs.Forms.{fields-in}
 
 -- ---- the head
 

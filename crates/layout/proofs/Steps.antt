@@ -17,14 +17,14 @@ use Rattle.paper.proofs.Laws.DecodeAt.{Bytes, word, raw-at, cursor}
 use Rattle.paper.proofs.Laws.DecodeFree.{basic-from, basic-body, basic-is, elements-none}
 use Rattle.memory.specs.Memory.{word-at}
 use Rattle.memory.proofs.Laws.{word-in}
-use Rattle.layout.specs.declared.form.Form.{Form}
-use Rattle.layout.specs.declared.text.Past.the-variants.{At, Bad}
+use Rattle.forms.specs.declared.form.Form.{Form}
+use Rattle.texts.specs.declared.Past.the-variants.{At, Bad}
 use Rattle.layout.specs.declared.walk.Walk.{Walk}
 use Rattle.layout.specs.declared.walk.Walk.the-variants.{Walked, Wrong}
-use Rattle.layout.specs.Form.{form-of, size-of, top-of, kind-of, fits-in}
-use Rattle.layout.specs.Text.{LeafIs}
+use Rattle.forms.specs.Form.{form-of, size-of, top-of, kind-of, fits-in}
+use Rattle.texts.specs.Text.{LeafIs}
 use Rattle.layout.specs.Walk.{WalkIs, basic-here, elements-here}
-use Rattle.layout.proofs.Forms.{fields-in}
+use Rattle.forms.proofs.Forms.{fields-in}
 use Rattle.layout.proofs.Heads.{Head, record-outside, basic-inside, elements-open, stop, sized}
 
 module _ {A B : Type 0} (recs text : List ℕ) (o : Option (A × Cursor)) (f : A → B) where

@@ -1,4 +1,1 @@
-pub mod Form
-pub mod Text
-pub mod Header
 pub mod Walk

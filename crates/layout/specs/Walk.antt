@@ -11,10 +11,10 @@ use Rattle.paper.specs.Syntax.{Basic, Basics}
 use Rattle.paper.specs.Decoder.{Cursor, record-at}
 use Rattle.paper.proofs.Laws.DecodeAt.{word, cursor}
 use Rattle.paper.proofs.Laws.DecodeFree.{basic-from, elements-from}
-use Rattle.layout.specs.declared.form.Form.{Form}
+use Rattle.forms.specs.declared.form.Form.{Form}
 use Rattle.layout.specs.declared.walk.Walk.{Walk}
 use Rattle.layout.specs.declared.walk.Walk.the-variants.{Walked, Wrong}
-use Rattle.layout.specs.Form.{form-of, size-of}
+use Rattle.forms.specs.Form.{form-of, size-of}
 
 -- what every node must have, whatever its kind: it lies within, is not too deep, and spans one node or more and no more than are left
 unfoldable pub heads : Form → List ℕ → ℕ → ℕ → ℕ → Bool

@@ -1,13 +1,13 @@
 // Records of basics: where those of one, and those of a vector's elements, end, if they are as they should be.
-use crate::field::span_at;
-use crate::field::value_at;
-use crate::form::Form;
-use crate::form::element_fits;
-use crate::form::kind_of;
-use crate::form::size;
-use crate::form::top;
-use crate::text::Past;
-use crate::text::leaf;
+use fields::span_at;
+use fields::value_at;
+use forms::Form;
+use forms::element_fits;
+use forms::kind_of;
+use forms::size;
+use forms::top;
+use texts::Past;
+use texts::leaf;
 use memory::fits;
 ghost use mathlib.Core.Path.{_≡_};
 ghost use Prim.Native.Nat.{_-_, _≤_};

@@ -26,7 +26,7 @@ use Rattle.paper.proofs.Laws.Gives.{Gives, gives, refuses, gives-bind}
 use Rattle.paper.proofs.Legal.Bounds.{Bounded, IsBounded, of-table, evaluates, evaluates-numbers}
 use Rattle.memory.specs.Memory.{stored}
 use Rattle.memory.proofs.Laws.{clear-wiped}
-use Rattle.layout.specs.Header.{text-of}
+use Rattle.forms.specs.Header.{text-of}
 use Rattle.rows.specs.View.{view}
 use Rattle.write.specs.Tabled.{tabled, chosen, fitted}
 use Rattle.write.proofs.Stores.{chosen-store, table-written}

@@ -19,8 +19,8 @@ use Rattle.paper.specs.Operations.{or-refused}
 use Rattle.paper.proofs.Compiled.{compiled}
 use Rattle.paper.proofs.Decoded.StepList.{steps-exact}
 use Rattle.paper.proofs.Decoded.Table.{table-exact}
-use Rattle.layout.specs.declared.form.Form.the-variants.{Table, Steps}
-use Rattle.layout.specs.Header.{records-of, text-of}
+use Rattle.forms.specs.declared.form.Form.the-variants.{Table, Steps}
+use Rattle.forms.specs.Header.{records-of, text-of}
 use Rattle.table.specs.Whole.{is-table-of}
 use Rattle.steplist.specs.Whole.{is-step-list-of}
 use Rattle.rows.specs.View.{groups, view}

@@ -17,9 +17,9 @@ use Rattle.paper.specs.StepDecoder.{in-steps}
 use Rattle.paper.proofs.Decoded.Parts.{length-little}
 use Rattle.paper.proofs.Decoded.Header.{Lasts, lasts-++, records-length}
 use Rattle.memory.specs.Memory.{word-at, part-at}
-use Rattle.layout.specs.declared.form.Form.the-variants.{Table, Steps}
-use Rattle.layout.specs.Form.{form-of, size-of}
-use Rattle.layout.specs.Header.{records-of, text-of}
+use Rattle.forms.specs.declared.form.Form.the-variants.{Table, Steps}
+use Rattle.forms.specs.Form.{form-of, size-of}
+use Rattle.forms.specs.Header.{records-of, text-of}
 use Rattle.table.proofs.Inside.{rows-lasts}
 use Rattle.rows.specs.View.{view}
 use Rattle.rows.specs.Search.{text-bytes}

@@ -2,7 +2,7 @@
 use crate::block::Went;
 use crate::evaluate::evaluate;
 use crate::operation::Answer;
-use layout::text_of;
+use forms::text_of;
 use memory::clear;
 use rows::row::kind_at;
 use rows::search::Found;

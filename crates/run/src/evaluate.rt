@@ -1,9 +1,9 @@
 // A step list over a starting table: the rows of the store that they give.
 use crate::block::Went;
 use crate::block::statements;
-use layout::Form;
-use layout::records_of;
-use layout::text_of;
+use forms::Form;
+use forms::records_of;
+use forms::text_of;
 use load::load;
 use steplist::is_step_list;
 use table::is_table;

@@ -1,7 +1,7 @@
 // Operation 2: step list and starting table to the whole table.
 use crate::block::Went;
 use crate::evaluate::evaluate;
-use layout::text_of;
+use forms::text_of;
 use memory::clear;
 use write::write;
 ghost use mathlib.Core.Path.{_≡_};

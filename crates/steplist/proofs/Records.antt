@@ -16,9 +16,9 @@ use Rattle.paper.specs.StepDecoder.{plain, bare, step-here, stops}
 use Rattle.paper.proofs.Laws.DecodeAt.{Bytes, word, raw-at, cursor, record-here, record-short}
 use Rattle.memory.specs.Memory.{word-at}
 use Rattle.memory.proofs.Laws.{word-in}
-use Rattle.layout.specs.Form.{fields}
+use Rattle.forms.specs.Form.{fields}
 use Rattle.layout.proofs.Ends.{empty-yes, empty-no}
-use Rattle.layout.proofs.Forms.{fields-in}
+use Rattle.forms.proofs.Forms.{fields-in}
 use Rattle.steplist.specs.Record.{StopsIs, opens-at, ClosesIs}
 
 -- ---- where statements and prototypes end

@@ -20,14 +20,14 @@ use Rattle.paper.proofs.Laws.DecodeAt.{Bytes, word, raw-at, cursor, record-here
 use Rattle.paper.proofs.Laws.DecodeFree.{statements-from, value-from, prototypes-from, statement-body, statements-is, prototype-body, prototypes-is, statements-left, value-left}
 use Rattle.memory.specs.Memory.{word-at}
 use Rattle.memory.proofs.Laws.{fit, word-in}
-use Rattle.layout.specs.declared.text.Past.the-variants.{At, Bad}
+use Rattle.texts.specs.declared.Past.the-variants.{At, Bad}
 use Rattle.layout.specs.declared.walk.Walk.{Walk}
 use Rattle.layout.specs.declared.walk.Walk.the-variants.{Walked, Wrong}
-use Rattle.layout.specs.Form.{fields}
-use Rattle.layout.specs.Text.{FieldIs}
+use Rattle.forms.specs.Form.{fields}
+use Rattle.texts.specs.Text.{FieldIs}
 use Rattle.layout.specs.Walk.{WalkIs}
 use Rattle.layout.proofs.Ends.{empty-yes}
-use Rattle.layout.proofs.Forms.{fields-in}
+use Rattle.forms.proofs.Forms.{fields-in}
 use Rattle.layout.proofs.Heads.{and-true}
 use Rattle.layout.proofs.Steps.{onto}
 use Rattle.steplist.specs.Record.{StopsIs, opens-at, ClosesIs}

@@ -22,14 +22,14 @@ use Rattle.paper.proofs.Laws.DecodeAt.{Bytes, word, raw-at, cursor, record-here
 use Rattle.paper.proofs.Laws.DecodeFree.{basic-from, statements-from, prototypes-from, value-body, value-is, prototype-body, prototypes-is}
 use Rattle.memory.specs.Memory.{word-at}
 use Rattle.memory.proofs.Laws.{fit, word-in}
-use Rattle.layout.specs.declared.form.Form.the-variants.{Steps}
-use Rattle.layout.specs.declared.text.Past.the-variants.{At, Bad}
+use Rattle.forms.specs.declared.form.Form.the-variants.{Steps}
+use Rattle.texts.specs.declared.Past.the-variants.{At, Bad}
 use Rattle.layout.specs.declared.walk.Walk.{Walk}
 use Rattle.layout.specs.declared.walk.Walk.the-variants.{Walked, Wrong}
-use Rattle.layout.specs.Form.{form-of, size-of, fields}
-use Rattle.layout.specs.Text.{FieldIs}
+use Rattle.forms.specs.Form.{form-of, size-of, fields}
+use Rattle.texts.specs.Text.{FieldIs}
 use Rattle.layout.specs.Walk.{WalkIs, basic-here}
-use Rattle.layout.proofs.Forms.{fields-in}
+use Rattle.forms.proofs.Forms.{fields-in}
 use Rattle.layout.proofs.Heads.{basic-inside}
 use Rattle.layout.proofs.Steps.{onto}
 use Rattle.steplist.specs.Walk.{WalkOn, value-here, prototypes-here, take-at, take-here}

@@ -11,10 +11,10 @@ use Rattle.paper.specs.Maybe.{_>>=_}
 use Rattle.paper.specs.TableDecoder.{absent}
 use Rattle.paper.specs.StepDecoder.{in-steps, block-of}
 use Rattle.paper.proofs.Laws.DecodeFree.{block-of-is}
-use Rattle.layout.specs.declared.form.Form.the-variants.{Steps}
+use Rattle.forms.specs.declared.form.Form.the-variants.{Steps}
 use Rattle.layout.specs.declared.walk.Walk.the-variants.{Walked}
-use Rattle.layout.specs.Form.{form-of, number-of, size-of, most-text}
-use Rattle.layout.specs.Header.{header-in, records-of, text-of, Sized}
+use Rattle.forms.specs.Form.{form-of, number-of, size-of, most-text}
+use Rattle.forms.specs.Header.{header-in, records-of, text-of, Sized}
 use Rattle.layout.specs.Walk.{WalkIs}
 use Rattle.layout.proofs.Ends.{ended-more, ended-text, ended-all}
 use Rattle.steplist.specs.Walk.{statements-here}

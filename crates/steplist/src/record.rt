@@ -1,15 +1,15 @@
 // Step records by themselves: which step stands at a place, and whether its unused fields are 0.
-use layout::depth_at;
-use layout::label_at;
-use layout::place_at;
-use layout::span_at;
-use layout::step_at;
-use layout::value_at;
+use fields::depth_at;
+use fields::label_at;
+use fields::place_at;
+use fields::span_at;
+use fields::step_at;
+use fields::value_at;
 use memory::fits;
 ghost use mathlib.Core.Path.{_≡_};
 ghost use Rattle.paper.specs.Maybe.{require};
 ghost use Rattle.paper.specs.StepDecoder as Steps;
-ghost use Rattle.layout.specs.Form.{fields};
+ghost use Rattle.forms.specs.Form.{fields};
 ghost use Rattle.steplist.specs.Record.{StopsIs, opens-at, ClosesIs};
 
 // Whether no statement stands here: the records end, or a leave stands here.

@@ -1,13 +1,13 @@
 // The parts of statements that hold no statements: a set's basic, a link's path, a prototype that is a reference.
 use crate::record::plain;
-use layout::Form;
-use layout::Past;
+use forms::Form;
+use texts::Past;
 use layout::Walk;
 use layout::basic;
-use layout::label_at;
-use layout::path_here;
-use layout::span_at;
-use layout::value_at;
+use fields::label_at;
+use texts::path_here;
+use fields::span_at;
+use fields::value_at;
 ghost use mathlib.Core.Path.{_≡_};
 ghost use Prim.Native.Nat.{_+_, _≤_};
 ghost use lib.ListN.{length};

@@ -1,11 +1,11 @@
 // Whether bytes are a step list.
 use crate::walk::statements;
-use layout::Form;
-use layout::Size;
+use forms::Form;
+use forms::Size;
 use layout::Walk;
-use layout::count;
-use layout::records_of;
-use layout::text_of;
+use forms::count;
+use forms::records_of;
+use forms::text_of;
 ghost use mathlib.Core.Path.{_≡_};
 ghost use Rattle.steplist.specs.Whole.{whole-in, is-step-list-of};
 

@@ -13,10 +13,10 @@ use Rattle.paper.specs.Decoder.{ended}
 use Rattle.paper.specs.TableDecoder.{in-table, absent, distinct, table-of}
 use Rattle.paper.proofs.Laws.DecodeAt.{cursor}
 use Rattle.paper.proofs.Laws.DecodeFree.{table-of-is}
-use Rattle.layout.specs.declared.form.Form.the-variants.{Table}
+use Rattle.forms.specs.declared.form.Form.the-variants.{Table}
 use Rattle.layout.specs.declared.walk.Walk.the-variants.{Walked}
-use Rattle.layout.specs.Form.{form-of, number-of, size-of, most-text}
-use Rattle.layout.specs.Header.{header-in, records-of, text-of, Sized}
+use Rattle.forms.specs.Form.{form-of, number-of, size-of, most-text}
+use Rattle.forms.specs.Header.{header-in, records-of, text-of, Sized}
 use Rattle.layout.specs.Walk.{WalkIs}
 use Rattle.layout.proofs.Ends.{ended-more, ended-text, ended-all}
 use Rattle.table.specs.Walk.{entries-here}

@@ -17,11 +17,11 @@ use Rattle.paper.proofs.Laws.DecodeAt.{Bytes, word, raw-at, cursor}
 use Rattle.paper.proofs.Laws.DecodeFree.{basic-from, entries-from, entry-value, entry-body, entries-some}
 use Rattle.memory.specs.Memory.{word-at}
 use Rattle.memory.proofs.Laws.{fit, word-in}
-use Rattle.layout.specs.declared.form.Form.the-variants.{Table}
-use Rattle.layout.specs.declared.text.Past.{Past}
-use Rattle.layout.specs.declared.text.Past.the-variants.{At, Bad}
-use Rattle.layout.specs.Form.{form-of, size-of}
-use Rattle.layout.specs.Text.{FieldIs}
+use Rattle.forms.specs.declared.form.Form.the-variants.{Table}
+use Rattle.texts.specs.declared.Past.{Past}
+use Rattle.texts.specs.declared.Past.the-variants.{At, Bad}
+use Rattle.forms.specs.Form.{form-of, size-of}
+use Rattle.texts.specs.Text.{FieldIs}
 use Rattle.layout.specs.Walk as Layout
 use Rattle.layout.proofs.Heads.{and-true, stop, goes, stops, headless, record-inside, record-outside}
 use Rattle.layout.proofs.Heads as Nodes

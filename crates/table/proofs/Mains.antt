@@ -21,9 +21,9 @@ use Rattle.paper.specs.Meaning.{main}
 use Rattle.paper.specs.Operations.{Outcome, or-refused, told, written, main-op, takes-main}
 use Rattle.paper.specs.Decoder.{Cursor}
 use Rattle.paper.specs.TableDecoder.{in-table, absent, table-of}
-use Rattle.layout.specs.declared.form.Form.the-variants.{Table}
-use Rattle.layout.specs.Form.{form-of, number-of, size-of, most-text}
-use Rattle.layout.specs.Header.{header-in}
+use Rattle.forms.specs.declared.form.Form.the-variants.{Table}
+use Rattle.forms.specs.Form.{form-of, number-of, size-of, most-text}
+use Rattle.forms.specs.Header.{header-in}
 use Rattle.paper.proofs.Decoded.Header.{headed, records-length, laid-out-headed}
 use Rattle.paper.proofs.Decoded.Rows.{Front}
 use Rattle.paper.proofs.Laws.DecodeAt.{Bytes, word, cursor}

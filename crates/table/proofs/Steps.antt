@@ -17,11 +17,11 @@ use Rattle.paper.proofs.Laws.DecodeAt.{Bytes, word, raw-at, cursor}
 use Rattle.paper.proofs.Laws.DecodeFree.{entries-none, entry-value}
 use Rattle.memory.specs.Memory.{word-at}
 use Rattle.memory.proofs.Laws.{word-in}
-use Rattle.layout.specs.declared.form.Form.the-variants.{Table}
-use Rattle.layout.specs.declared.text.Past.the-variants.{At, Bad}
+use Rattle.forms.specs.declared.form.Form.the-variants.{Table}
+use Rattle.texts.specs.declared.Past.the-variants.{At, Bad}
 use Rattle.layout.specs.declared.walk.Walk.{Walk}
 use Rattle.layout.specs.declared.walk.Walk.the-variants.{Walked, Wrong}
-use Rattle.layout.specs.Form.{form-of, size-of}
+use Rattle.forms.specs.Form.{form-of, size-of}
 use Rattle.layout.specs.Walk.{WalkIs, basic-here}
 use Rattle.layout.proofs.Heads.{basic-inside}
 use Rattle.layout.proofs.Steps.{onto}

@@ -22,9 +22,9 @@ use Rattle.paper.proofs.Laws.DecodeAt.{Bytes, word, raw-at, cursor}
 use Rattle.paper.proofs.Laws.DecodeFree.{basic-from, entries-from, entry-value}
 use Rattle.table.specs.Walk.{value-here, entries-here}
 use Rattle.table.specs.Child.{Holds}
-use Rattle.layout.specs.declared.form.Form.the-variants.{Table}
-use Rattle.layout.specs.Form.{form-of, size-of, most-text}
-use Rattle.layout.specs.Header.{records-of, text-of, Sized}
+use Rattle.forms.specs.declared.form.Form.the-variants.{Table}
+use Rattle.forms.specs.Form.{form-of, size-of, most-text}
+use Rattle.forms.specs.Header.{records-of, text-of, Sized}
 use Rattle.table.specs.Whole.{is-table-of, store-in}
 use Rattle.table.specs.Main.{Tabled}
 use Rattle.table.proofs.Inside.{bind-some, some-is, entry-of}

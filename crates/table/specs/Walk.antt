@@ -12,9 +12,9 @@ use Rattle.paper.specs.Decoder.{Cursor, field, name-of}
 use Rattle.paper.specs.TableDecoder.{in-table}
 use Rattle.paper.proofs.Laws.DecodeAt.{word, raw-at, cursor}
 use Rattle.paper.proofs.Laws.DecodeFree.{basic-from, entries-from, entry-value}
-use Rattle.layout.specs.declared.form.Form.the-variants.{Table}
-use Rattle.layout.specs.declared.text.Past.{Past}
-use Rattle.layout.specs.declared.text.Past.the-variants.{At, Bad}
+use Rattle.forms.specs.declared.form.Form.the-variants.{Table}
+use Rattle.texts.specs.declared.Past.{Past}
+use Rattle.texts.specs.declared.Past.the-variants.{At, Bad}
 use Rattle.layout.specs.Walk as Layout
 
 -- what every record must have, whatever its kind: a node's head, and this depth

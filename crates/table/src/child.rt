@@ -1,7 +1,7 @@
 // A look among the attributes of a component, in the records of a table.
-use layout::byte;
-use layout::label_at;
-use layout::span_at;
+use texts::byte;
+use fields::label_at;
+use fields::span_at;
 use memory::fits;
 use memory::part;
 ghost use mathlib.Core.Path.{_≡_};

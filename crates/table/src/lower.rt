@@ -1,7 +1,7 @@
 // The table of a component's attributes, written from the records and the text that they have in a whole table.
-use layout::byte;
-use layout::label_at;
-use layout::span_at;
+use texts::byte;
+use fields::label_at;
+use fields::span_at;
 use memory::copy;
 use memory::get16;
 use memory::get64;

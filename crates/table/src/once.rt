@@ -3,7 +3,7 @@ use crate::child::Found;
 use crate::child::find_child;
 use crate::child::name_at;
 use crate::child::span_within;
-use layout::kind_at;
+use fields::kind_at;
 ghost use mathlib.Core.Path.{_≡_};
 ghost use Prim.Native.Nat.{_+_, _*_, _≤_};
 ghost use lib.ListN.{length};

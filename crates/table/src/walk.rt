@@ -1,14 +1,14 @@
 // Records of a table: where those of an attribute's value, and of a component's attributes, end, if they are as they should be.
-use layout::Form;
-use layout::Past;
+use forms::Form;
+use texts::Past;
 use layout::Walk;
 use layout::basic;
-use layout::depth_at;
-use layout::kind_at;
-use layout::label_at;
-use layout::name_here;
-use layout::span_at;
-use layout::value_at;
+use fields::depth_at;
+use fields::kind_at;
+use fields::label_at;
+use texts::name_here;
+use fields::span_at;
+use fields::value_at;
 ghost use mathlib.Core.Path.{_≡_};
 ghost use Prim.Native.Nat.{_+_, _≤_};
 ghost use lib.ListN.{length};

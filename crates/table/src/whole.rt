@@ -1,12 +1,12 @@
 // Whether bytes are a table.
 use crate::once::distinct;
 use crate::walk::entries;
-use layout::Form;
-use layout::Size;
+use forms::Form;
+use forms::Size;
 use layout::Walk;
-use layout::count;
-use layout::records_of;
-use layout::text_of;
+use forms::count;
+use forms::records_of;
+use forms::text_of;
 ghost use mathlib.Core.Path.{_≡_};
 ghost use Rattle.table.specs.Whole.{whole-in, is-table-of};
 

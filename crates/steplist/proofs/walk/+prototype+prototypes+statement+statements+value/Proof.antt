@@ -32,11 +32,11 @@ use Rattle.steplist.proofs.walk.+prototype+prototypes+statement+stateme
 use Rattle.steplist.proofs.walk.value.Reads as value
 use Rattle.steplist.proofs.walk.value.Kinds as value-kinds
 use Rattle.steplist.proofs.walk.+prototype+prototypes+statement+statements+value.Lts-value as value-lts
-use Rattle.layout.proofs.label_at.Reads as label-at-reads
-use Rattle.layout.proofs.place_at.Reads as place-at-reads
-use Rattle.layout.proofs.step_at.Reads as step-at-reads
-use Rattle.layout.proofs.value_at.Reads as value-at-reads
-use Rattle.layout.proofs.path_here.Reads as path-here-reads
+use Rattle.fields.proofs.label_at.Reads as label-at-reads
+use Rattle.fields.proofs.place_at.Reads as place-at-reads
+use Rattle.fields.proofs.step_at.Reads as step-at-reads
+use Rattle.fields.proofs.value_at.Reads as value-at-reads
+use Rattle.texts.proofs.path_here.Reads as path-here-reads
 use Rattle.memory.proofs.fits.Reads as fits-reads
 use Rattle.steplist.proofs.record.bare.Reads as bare-reads
 use Rattle.steplist.proofs.record.closes.Reads as closes-reads

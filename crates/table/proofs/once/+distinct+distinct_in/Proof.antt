@@ -21,7 +21,7 @@ use Rattle.table.proofs.once.distinct_in.Kinds as distinct-in-kinds
 use Rattle.table.proofs.once.+distinct+distinct_in.Lts-distinct_in as distinct-in-lts
 use Rattle.table.proofs.child.span_within.Reads as span-within-reads
 use Rattle.table.proofs.once.alone.Reads as alone-reads
-use Rattle.layout.proofs.kind_at.Reads as kind-at-reads
+use Rattle.fields.proofs.kind_at.Reads as kind-at-reads
 use Rattle.table.proofs.once.+distinct+distinct_in.{statement}
 use Rattle.table.proofs.once.+distinct+distinct_in.Tie.{close}
 

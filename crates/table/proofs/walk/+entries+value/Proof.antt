@@ -21,12 +21,12 @@ use Rattle.table.proofs.walk.+entries+value.Lts-entries as entries-lts
 use Rattle.table.proofs.walk.value.Reads as value
 use Rattle.table.proofs.walk.value.Kinds as value-kinds
 use Rattle.table.proofs.walk.+entries+value.Lts-value as value-lts
-use Rattle.layout.proofs.kind_at.Reads as kind-at-reads
-use Rattle.layout.proofs.span_at.Reads as span-at-reads
+use Rattle.fields.proofs.kind_at.Reads as kind-at-reads
+use Rattle.fields.proofs.span_at.Reads as span-at-reads
 use Rattle.layout.proofs.basic.Reads as basic-reads
 use Rattle.table.proofs.walk.head.Reads as head-reads
 use Rattle.table.proofs.walk.label_end.Reads as label-end-reads
-use Rattle.layout.proofs.value_at.Reads as value-at-reads
+use Rattle.fields.proofs.value_at.Reads as value-at-reads
 use Rattle.table.proofs.walk.+entries+value.{statement}
 use Rattle.table.proofs.walk.+entries+value.Tie.{close}
 
