@@ -17,15 +17,15 @@ use Rattle.paper.specs.Layout.{complement}
 use Rattle.tokens.specs.declared.Kind.the-variants.{Integer, Decimal, Text, End}
 use Rattle.tokens.specs.declared.numbers.Amount.{Amount}
 use Rattle.tokens.specs.declared.numbers.Amount.the-variants.{Fits, TooLarge}
-use Rattle.tokens.specs.declared.text.Quoted.{Quoted}
-use Rattle.tokens.specs.declared.text.Quoted.the-variants.{Closed, Unclosed}
+use Rattle.spelling.specs.declared.text.Quoted.{Quoted}
+use Rattle.spelling.specs.declared.text.Quoted.the-variants.{Closed, Unclosed}
 use Rattle.tokens.specs.declared.scan.Front.{Front}
 use Rattle.tokens.specs.declared.scan.Front.the-variants.{Read, Fault}
 use Rattle.tokens.specs.Kinds.{wordFrom, literalKind, kindOf}
 use Rattle.tokens.specs.Numbers.{numberLen, integerOf}
-use Rattle.tokens.specs.Text.{quotes, quotedOf}
+use Rattle.spelling.specs.Text.{quotes, quotedOf}
 use Rattle.tokens.specs.Scans.{scanOf, numbered, endsAt, integerFront}
-use Rattle.tokens.proofs.Strings.{all-quotes}
+use Rattle.spelling.proofs.Strings.{all-quotes}
 
 -- ---- names
 
@@ -136,10 +136,6 @@ module _ (s : List ℕ) (h : length s ≡ 0 → ⊥) where
     scan-number f = rw (not-empty s h, e, f)
 
     module _ (f : (digit (at s 0) || is "-" (at s 0)) ≡ false) where
-      pub scan-string : is "\"" (at s 0) ≡ true → scan s ≡ text (quotes (drop 1 s))
-      unfolding scan if_then_else_
-      scan-string g = rw (not-empty s h, e, f, g) (ap text (all-quotes (length s) (drop 1 s) (omega (arith, length-drop 1 s))))
-
       pub scan-mark : is "\"" (at s 0) ≡ false → among ";,{}[]:" (at s 0) ≡ true → scan s ≡ token (mark (at s 0)) 1
       unfolding scan if_then_else_
       scan-mark g k = rw (not-empty s h, e, f, g, k)

@@ -16,10 +16,10 @@ use Rattle.paper.proofs.Laws.Answers.{if-case}
 use Rattle.paper.proofs.Laws.Rescan.{span-le}
 use Rattle.paper.proofs.Scanned.Classes.{or-left}
 use Rattle.tokens.specs.Numbers.{numberLen}
-use Rattle.tokens.proofs.At.{at-in}
+use Rattle.spelling.proofs.At.{at-in}
 use Rattle.tokens.proofs.Runs.{span-step}
 use Rattle.tokens.proofs.Digits.{whole-le, number-le}
-use Rattle.tokens.proofs.Strings.{quoted-within}
+use Rattle.spelling.proofs.Strings.{quoted-within}
 
 pub data Shape (s : List ℕ) : Scanned → Type 0 where
   at-end : length s ≡ 0 → Shape s (token end 0)

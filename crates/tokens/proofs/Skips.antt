@@ -19,13 +19,7 @@ use Rattle.paper.specs.Scanner.{span, closing, gap, skip}
 use Rattle.tokens.specs.declared.gaps.Ends.the-variants.{At, Never}
 use Rattle.tokens.specs.declared.gaps.Skipped.the-variants.{To, Open}
 use Rattle.tokens.specs.Gaps.{endOf, skipOf, skips}
-use Rattle.tokens.proofs.At.{at-in, at-out, at-drop}
-
--- a byte that is there stands before the end
-pub there : (s : List ℕ) (i b : ℕ) → at s i ≡ b → b < 256 → i < length s
-there [] i b e h = absurd (omega arith)
-there (x ∷ s) zero b e h = omega arith
-there (x ∷ s) (suc i) b e h = let k = there s i b e h in omega arith
+use Rattle.spelling.proofs.At.{at-in, at-drop, there, class-there}
 
 -- `*/` stands at i
 abbrev pub close-at : List ℕ → ℕ → Bool
@@ -68,14 +62,6 @@ module _ (s : List ℕ) (i : ℕ) where
   close-next e = there s (i + 1) 47 (sym (eqb-true 47 (at s (i + 1)) (and-right (is "*" (at s i)) (is "/" (at s (i + 1))) e))) (lit< tt)
 
 -- ---- the gap at the front
-
--- a byte of a class to which 256 does not belong is there
-pub class-there : (p : ℕ → Bool) → p 256 ≡ false → (s : List ℕ) (i : ℕ) → p (at s i) ≡ true → i < length s
-class-there p n s i e = go (ltb i (length s)) refl
-  where
-    go : (c : Bool) → ltb i (length s) ≡ c → i < length s
-    go true h = ltb-true i (length s) h
-    go false h = absurd (true≢false (sym e ∙ ap p (at-out s i (ltb-false i (length s) h)) ∙ n))
 
 pub blank-there : (s : List ℕ) (i : ℕ) → blank (at s i) ≡ true → i < length s
 unfolding blank

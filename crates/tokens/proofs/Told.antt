@@ -23,12 +23,13 @@ use Rattle.tokens.specs.declared.Token.the-variants.{Found, Refused}
 use Rattle.tokens.specs.declared.Token as code
 use Rattle.tokens.specs.Kinds.{wordFrom, literalKind, kindOf}
 use Rattle.tokens.specs.Gaps.{skips}
-use Rattle.tokens.specs.Shown.{shown, partOf, stringOf, textOf}
+use Rattle.tokens.specs.Shown.{shown}
+use Rattle.spelling.specs.Spelt.{partOf, stringOf, textOf}
 use Rattle.tokens.proofs.Table.{agree, agreed, every, entry}
 use Rattle.tokens.proofs.Words.{same-eq, eq-same}
 use Rattle.tokens.proofs.Skips.{Ending, at-token, at-comment, ending}
 use Rattle.tokens.proofs.Shapes.{Shape, at-end, a-name, an-integer, a-decimal, a-string, a-mark, a-fault, shape}
-use Rattle.tokens.proofs.At.{rest}
+use Rattle.spelling.proofs.At.{rest}
 use Rattle.tokens.proofs.Nexts.{from, next-token, next-comment}
 
 -- ---- the places move with the rest of the source

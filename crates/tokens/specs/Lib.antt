@@ -1,7 +1,6 @@
 pub mod Class
 pub mod Gaps
 pub mod Numbers
-pub mod Text
 pub mod Kinds
 pub mod Scans
 pub mod Shown

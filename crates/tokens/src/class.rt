@@ -35,16 +35,6 @@ pub fn wide(x: u8) -> usize
     x as usize
 }
 
-// The byte at a place, and past the end 256, which is no byte.
-pub fn byte_at(s: &[u8], i: usize) -> usize
-    ensures { λ r. ⌜ r ≡ at (now (s .entry)) i ⌝ }
-{
-    if i < s.len() {
-        return wide(s[i]);
-    }
-    256
-}
-
 pub(crate) fn class_at(class: &[u8; 256], s: &[u8], i: usize) -> u8
     requires { ⌜ Classed (now class) ⌝ }
     ensures { λ r. ⌜ Class (at (now (s .entry)) i) r ⌝ }

@@ -6,14 +6,14 @@ ghost use Rattle.paper.specs.Bytes.{at, is};
 ghost use Rattle.paper.specs.Scanner.{span, sign, named, text, scan};
 ghost use Rattle.tokens.specs.Numbers.{Digits};
 ghost use Rattle.tokens.specs.Class.{Classed};
-ghost use Rattle.tokens.specs.Text.{quotes};
+ghost use Rattle.spelling.specs.Text.{quotes};
 ghost use Rattle.tokens.specs.Scans.{scanOf, numbered, endsAt, integerFront};
 use crate::Kind;
 use crate::class::MARK;
 use crate::class::MINUS;
 use crate::class::QUOTE;
 use crate::class::START;
-use crate::class::byte_at;
+use spelling::byte_at;
 use crate::class::class_at;
 use crate::names::kind_of;
 use crate::names::name_len;
@@ -21,8 +21,8 @@ use crate::numbers::Amount;
 use crate::numbers::integer;
 use crate::numbers::number_len;
 use crate::numbers::whole_len;
-use crate::text::Quoted;
-use crate::text::measure;
+use spelling::Quoted;
+use spelling::measure;
 
 const POINT: usize = 46;
 

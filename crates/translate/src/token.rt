@@ -87,7 +87,7 @@ fn decimal_at(src: &[u8], at: usize) -> &[u8]
             kind: _,
             at: from,
             end,
-        } => tokens::token_part(&src[at..], from, end),
+        } => spelling::token_part(&src[at..], from, end),
         Token::Refused { number: _, at: _ } => src,
     }
 }
@@ -104,7 +104,7 @@ pub(crate) fn put_string(src: &[u8], at: usize, out: &mut [u8], to: usize) -> us
     requires { ⌜ StringFits (now src) at (now out) to ⌝ }
     ensures { λ r. ⌜ Put (now (out .entry)) (now (out .exit)) to (long-text (said-at (now (src .entry)) at)) r ⌝ }
 {
-    let n = tokens::decode(&src[at..], out, to + 2);
+    let n = spelling::decode(&src[at..], out, to + 2);
     memory::put16(out, to, n as u16);
     to + 2 + n
 }

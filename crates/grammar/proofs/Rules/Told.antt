@@ -18,8 +18,9 @@ use Rattle.tokens.specs.declared.Kind.{Kind}
 use Rattle.tokens.specs.declared.Kind.the-variants.{Name, Word, Integer, Decimal, Text, Mark, End}
 use Rattle.tokens.specs.declared.Token.{Token as Answered}
 use Rattle.tokens.specs.declared.Token.the-variants.{Found, Refused}
-use Rattle.tokens.specs.Shown.{shown, textOf}
-use Rattle.tokens.proofs.At.{rest}
+use Rattle.tokens.specs.Shown.{shown}
+use Rattle.spelling.specs.Spelt.{textOf}
+use Rattle.spelling.proofs.At.{rest}
 use Rattle.tokens.proofs.Told.{Stands, Told, told, part, part-length, plain-tests, word-tests}
 use Rattle.grammar.specs.Places.{here, Shown, Stood}
 use Rattle.grammar.specs.Seen.{wordOf, seenOf, WordIs, LiteralIs, SeenIs, NameSeen, ends}

@@ -10,7 +10,7 @@ use Rattle.tokens.specs.declared.gaps.Skipped.the-variants.{To}
 use Rattle.tokens.specs.Gaps.{skipOf, skips}
 use Rattle.tokens.specs.Scans.{scanOf}
 use Rattle.tokens.specs.Shown.{shown}
-use Rattle.tokens.proofs.At.{rest}
+use Rattle.spelling.proofs.At.{rest}
 use Rattle.tokens.proofs.Nexts.{from, next-token, next-comment, skipped-to, skipped-open, placed, placed-found, read-within}
 use Rattle.tokens.proofs.next_token.Statement.{statement}
 use Rattle.tokens.proofs.next_token.Tie as tie

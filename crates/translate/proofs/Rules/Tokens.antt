@@ -25,8 +25,9 @@ use Rattle.tokens.specs.declared.Kind.{Kind}
 use Rattle.tokens.specs.declared.Kind.the-variants.{Name, Word, Integer, Decimal, Text, Mark, End}
 use Rattle.tokens.specs.declared.Token.the-variants.{Found, Refused}
 use Rattle.tokens.specs.declared.Token as code
-use Rattle.tokens.specs.Shown.{shown, partOf, stringOf, textOf, Decoded, decoded}
-use Rattle.tokens.specs.Text.{put}
+use Rattle.tokens.specs.Shown.{shown}
+use Rattle.spelling.specs.Spelt.{partOf, stringOf, textOf, Decoded, decoded}
+use Rattle.spelling.specs.Text.{put}
 use Rattle.tokens.proofs.Told.{Told, told, Stands, part-of-rest, part-length, word-tests}
 use Rattle.grammar.specs.Places.{here}
 use Rattle.translate.specs.Settled.{said-at, DecimalThere, StringThere}

@@ -3,7 +3,7 @@ use mathlib.Core.Path.{_∙_, subst, subst⁻¹}
 use Prim.Native.Nat.{ℕ}
 use lib.ListN.{getD}
 use Rattle.tokens.specs.Class.{Class}
-use Rattle.tokens.proofs.At.{at-in, at-out}
+use Rattle.spelling.proofs.At.{at-in, at-out}
 use Rattle.tokens.proofs.Classes.{class-end}
 use borrow.Author.Needs.{needs}
 use Rattle.tokens.proofs.class.class_at.Statement.{statement}

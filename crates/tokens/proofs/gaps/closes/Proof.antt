@@ -7,7 +7,7 @@ use mathlib.Core.Bool.{Bool, _&&_}
 use borrow.Author.Tests.{eq-eqb, ne-eqb}
 use lib.Dec.{lit<}
 use Rattle.paper.specs.Bytes.{at, is}
-use Rattle.tokens.proofs.Skips.{there}
+use Rattle.spelling.proofs.At.{there}
 use Rattle.tokens.proofs.gaps.closes.Statement.{statement}
 use Rattle.tokens.proofs.gaps.closes.Tie as tie
 

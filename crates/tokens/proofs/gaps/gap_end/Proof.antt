@@ -10,7 +10,8 @@ use lib.Dec.{lit<}
 use Rattle.paper.specs.Bytes.{at, is}
 use Rattle.paper.specs.Tokens.{blank}
 use Rattle.tokens.specs.declared.gaps.Ends.the-variants.{At}
-use Rattle.tokens.proofs.Skips.{there, blank-there, ends-blank, ends-plain, ends-line, ends-comment, ends-slash}
+use Rattle.spelling.proofs.At.{there}
+use Rattle.tokens.proofs.Skips.{blank-there, ends-blank, ends-plain, ends-line, ends-comment, ends-slash}
 use Rattle.tokens.proofs.gaps.gap_end.Statement.{statement}
 use Rattle.tokens.proofs.gaps.gap_end.Tie as tie
 

@@ -6,7 +6,7 @@ use Prim.Native.Nat.{ℕ, _+_, _≤_}
 use lib.ListN.{length, drop, length-drop}
 use Rattle.paper.specs.Scanner.{fraction, exponent}
 use Rattle.tokens.specs.Numbers.{numberLen}
-use Rattle.tokens.proofs.At.{rest}
+use Rattle.spelling.proofs.At.{rest}
 use Rattle.tokens.proofs.Digits.{fraction-le, exponent-le}
 use Rattle.tokens.proofs.numbers.number_len.Statement.{statement}
 use Rattle.tokens.proofs.numbers.number_len.Tie as tie

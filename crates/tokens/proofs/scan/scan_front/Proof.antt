@@ -11,8 +11,9 @@ use Rattle.tokens.specs.declared.Kind.the-variants.{Mark}
 use Rattle.tokens.specs.declared.scan.Front.the-variants.{Read}
 use Rattle.tokens.specs.Kinds.{kindOf}
 use Rattle.tokens.specs.Scans.{scanOf}
-use Rattle.tokens.proofs.At.{at-in}
-use Rattle.tokens.proofs.Fronts.{scan-end, scan-name, scan-number, scan-string, scan-mark, scan-other, number-first, no-number}
+use Rattle.spelling.proofs.At.{at-in}
+use Rattle.spelling.proofs.Decodes.{scan-string}
+use Rattle.tokens.proofs.Fronts.{scan-end, scan-name, scan-number, scan-mark, scan-other, number-first, no-number}
 use Rattle.tokens.proofs.scan.scan_front.Statement.{statement}
 use Rattle.tokens.proofs.scan.scan_front.Tie as tie
 

@@ -2,7 +2,7 @@
 use borrow.Author.Needs.{needs}
 use mathlib.Core.Path.{sym, ap, _∙_}
 use lib.ListN.{drop}
-use Rattle.tokens.specs.Text.{quotes}
+use Rattle.spelling.specs.Text.{quotes}
 use Rattle.tokens.proofs.Fronts.{asText, text-front, text-fits, text-long}
 use Rattle.tokens.proofs.scan.string_token.Statement.{statement}
 use Rattle.tokens.proofs.scan.string_token.Tie as tie
