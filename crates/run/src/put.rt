@@ -1,7 +1,7 @@
 // Puts among the rows, and the bounds after each.
 use crate::place::Place;
 use crate::place::descend;
-use rows::change::splice;
+use moves::splice;
 use rows::row::label_at;
 use rows::search::Found;
 use rows::search::child;

@@ -1,5 +1,5 @@
 // Values taken out of the store before the first put: copies of their rows, at the depth where they will stand.
-use rows::change::lift;
+use moves::lift;
 use rows::row::depth_at;
 use rows::row::kind_at;
 use rows::row::label_at;

@@ -9,7 +9,7 @@ use Rattle.run.proofs.put.replace.Statement.{statement}
 use Rattle.run.proofs.put.replace.Tie as tie
 use Rattle.run.proofs.put.replace.Reads as reads
 use Rattle.run.proofs.put.replace.Lts as lts
-use Rattle.rows.proofs.change.splice.Reads as splice-reads
+use Rattle.moves.proofs.splice.Reads as splice-reads
 use Rattle.rows.proofs.search.text_of.Reads as text-of-reads
 use Rattle.run.proofs.put.less.Reads as less-reads
 

@@ -17,7 +17,7 @@ use Rattle.run.proofs.taken.attributes.Statement.{statement}
 use Rattle.run.proofs.taken.attributes.Tie as tie
 use Rattle.run.proofs.taken.attributes.Reads as reads
 use Rattle.run.proofs.taken.attributes.Lts as lts
-use Rattle.rows.proofs.change.lift.Reads as lift-reads
+use Rattle.moves.proofs.lift.Reads as lift-reads
 use Rattle.rows.proofs.row.depth_at.Reads as depth-at-reads
 use Rattle.rows.proofs.search.end_of.Reads as end-of-reads
 

@@ -17,7 +17,7 @@ use Rattle.run.proofs.taken.value.Statement.{statement}
 use Rattle.run.proofs.taken.value.Tie as tie
 use Rattle.run.proofs.taken.value.Reads as reads
 use Rattle.run.proofs.taken.value.Lts as lts
-use Rattle.rows.proofs.change.lift.Reads as lift-reads
+use Rattle.moves.proofs.lift.Reads as lift-reads
 use Rattle.rows.proofs.row.depth_at.Reads as depth-at-reads
 use Rattle.rows.proofs.row.kind_at.Reads as kind-at-reads
 use Rattle.rows.proofs.row.label_at.Reads as label-at-reads

@@ -1,10 +1,10 @@
 // Rows replaced, and rows copied to another depth.
-use crate::row::depth_at;
-use crate::row::kind_at;
-use crate::row::label_at;
-use crate::row::put_row;
-use crate::row::size_at;
-use crate::row::value_at;
+use rows::row::depth_at;
+use rows::row::kind_at;
+use rows::row::label_at;
+use rows::row::put_row;
+use rows::row::size_at;
+use rows::row::value_at;
 use memory::copy;
 use memory::part;
 use memory::slide;

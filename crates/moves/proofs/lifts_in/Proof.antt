@@ -1,10 +1,10 @@
--- `rows::change::lifts_in` meets its contract. Assumes nothing.
+-- `moves::lifts_in` meets its contract. Assumes nothing.
 use Prim.Native.Nat.{_+_, _-_, _*_}
 use native.Mathlib.Omega.{arith}
 use borrow.Author.Tests.{le-leb, lt-leb}
 use borrow.Author.Needs.{needs}
-use Rattle.rows.proofs.change.lifts_in.Statement.{statement}
-use Rattle.rows.proofs.change.lifts_in.Tie as tie
+use Rattle.moves.proofs.lifts_in.Statement.{statement}
+use Rattle.moves.proofs.lifts_in.Tie as tie
 
 returns : tie.Need-returns
 returns c = let a = c .before .args in rw (lt-leb (a .p) (a .e) (omega arith))

@@ -1,11 +1,11 @@
--- `rows::change::splice` meets its contract. Assumes nothing.
+-- `moves::splice` meets its contract. Assumes nothing.
 use native.Mathlib.Omega.{arith}
 use mathlib.Core.Path.{sym}
 use lib.ListN.{length}
 use Rattle.rows.proofs.Changes.{Fits, fits-of, unfit, spliced-is}
 use borrow.Author.Needs.{needs}
-use Rattle.rows.proofs.change.splice.Statement.{statement}
-use Rattle.rows.proofs.change.splice.Tie as tie
+use Rattle.moves.proofs.splice.Statement.{statement}
+use Rattle.moves.proofs.splice.Tie as tie
 
 fitting : (c : tie.Else1) → Fits (length (c .before .before .before .before .args .w .now)) (c .before .before .before .before .args .n) (c .before .before .before .before .args .i) (c .before .before .before .before .args .e) (length (c .before .before .before .before .args .s .now)) (c .before .before .before .before .args .m)
 fitting c = fits-of _ _ _ _ _ _ (c .before .fits-in .ensures) (c .if1 .left)

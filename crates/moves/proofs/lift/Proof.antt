@@ -1,15 +1,15 @@
--- `rows::change::lift` meets its contract: what is copied and what is left to copy come to the same list at each turn. Assumes nothing.
+-- `moves::lift` meets its contract: what is copied and what is left to copy come to the same list at each turn. Assumes nothing.
 use Prim.Native.Nat.{_+_, _-_, _*_, _≤_}
 use native.Mathlib.Nat.{add-zero, sub-zero}
 use native.Mathlib.Omega.{arith}
 use mathlib.Core.Path.{_≡_, refl, sym, ap, _∙_}
 use lib.ListN.{length}
 use Rattle.memory.specs.Memory.{stored}
 use Rattle.rows.specs.Change.{moved, lifted}
 use Rattle.rows.proofs.Changes.{Lifts, lifts-of, unlifted, lifted-is, lift-turn, lift-end}
 use borrow.Author.Needs.{needs}
-use Rattle.rows.proofs.change.lift.Statement.{statement}
-use Rattle.rows.proofs.change.lift.Tie as tie
+use Rattle.moves.proofs.lift.Statement.{statement}
+use Rattle.moves.proofs.lift.Tie as tie
 
 abbrev Inv-loop : tie.InvT-loop
 Inv-loop w p e s₀ q from to k j₀ s j = (j ≤ k) × (k ≡ e - p) × (length s ≡ length s₀) × (stored s ((q + j) * 16) (lifted w from to (p + j) (k - j)) ≡ stored s₀ (q * 16) (lifted w from to p k))

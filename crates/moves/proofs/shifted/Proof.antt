@@ -1,9 +1,9 @@
--- `rows::change::shifted` meets its contract. Assumes nothing.
+-- `moves::shifted` meets its contract. Assumes nothing.
 use native.Mathlib.Omega.{arith}
 use Rattle.rows.specs.Change.{moved}
 use borrow.Author.Needs.{needs}
-use Rattle.rows.proofs.change.shifted.Statement.{statement}
-use Rattle.rows.proofs.change.shifted.Tie as tie
+use Rattle.moves.proofs.shifted.Statement.{statement}
+use Rattle.moves.proofs.shifted.Tie as tie
 
 add-x : tie.Need-add-x
 add-x c = search needs
