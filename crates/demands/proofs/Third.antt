@@ -13,8 +13,8 @@ use Rattle.paper.specs.Answer.{Answer, ok, refused, demand, _>>=_}
 use Rattle.paper.specs.Store.{Store}
 use Rattle.paper.specs.WellFormed.{IsTable}
 use Rattle.paper.specs.Operations.{Outcome, evaluated, translate, translate-op, run-op, told, written, cleared, translates, runs}
-use Rattle.paper.proofs.Demands.Answers.{tabled}
-use Rattle.paper.proofs.Demands.{demands}
+use Rattle.theorems.proofs.Demands.Answers.{tabled}
+use Rattle.theorems.proofs.Demands.{demands}
 use Rattle.translate.specs.Answers as T
 use Rattle.translate.specs.declared.answer.Answer.{Answer as Translated}
 use Rattle.run.specs.Runs as R

@@ -16,7 +16,7 @@ use Rattle.paper.specs.Layout.{Row, little, row-bytes, elements, each}
 use Rattle.paper.specs.Steps.{Step, make, take, enter, leave, done, set as setting, link, steps}
 use Rattle.paper.specs.StepLayout.{step-row, item, step-rows, all-rows}
 use Rattle.paper.specs.Operations.{wiped}
-use Rattle.paper.proofs.Decoded.Parts.{length-little}
+use Rattle.theorems.proofs.Decoded.Parts.{length-little}
 use Rattle.memory.proofs.Laws.{stored-sets, byte-stored}
 use Rattle.grammar.specs.Drafts.{Draft, drafts}
 use Rattle.grammar.specs.Puts.{put-row, puts}

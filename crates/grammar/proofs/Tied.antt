@@ -16,7 +16,7 @@ use Rattle.paper.specs.Reader.{expect, expect-word, path, word, basic-at, basic
 use Rattle.paper.specs.Layout.{Field, number, text, Row, path-text, long-text, little, row-text, text-of, texts, kind, content, elements, each}
 use Rattle.paper.specs.Steps.{Step, steps, value-steps, prototype-steps}
 use Rattle.paper.specs.StepLayout.{step-row, item, step-rows, all-rows}
-use Rattle.paper.proofs.Decoded.Parts.{length-little}
+use Rattle.theorems.proofs.Decoded.Parts.{length-little}
 use Rattle.grammar.specs.Drafts.{Draft, Drafted, draft, one, several, set-draft, item-draft, draft-word, draft-literal, draft-basic, draft-basics, make-draft, take-draft, bare-draft, link-draft, draft-statements, draft-value, draft-prototypes, drafts, text-size}
 use Rattle.grammar.specs.Places.{here}
 use Rattle.grammar.specs.Ties.{has-path, is-path, Reads, Labelled, no-label, path-label, Valued, same-number, path-value, decimal-value, string-value, Tied, AllTied, none, also, Alike, both, neither, DraftsOf, Given, AreDrafts}

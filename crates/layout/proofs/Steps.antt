@@ -13,8 +13,8 @@ use Rattle.paper.specs.Bytes.{if_then_else_}
 use Rattle.paper.specs.Maybe.{_>>=_, require}
 use Rattle.paper.specs.Syntax.{vector, εⱽ, _∷ⱽ_}
 use Rattle.paper.specs.Decoder.{Cursor}
-use Rattle.paper.proofs.Laws.DecodeAt.{Bytes, word, raw-at, cursor}
-use Rattle.paper.proofs.Laws.DecodeFree.{basic-from, basic-body, basic-is, elements-none}
+use Rattle.theorems.proofs.Laws.DecodeAt.{Bytes, word, raw-at, cursor}
+use Rattle.theorems.proofs.Laws.DecodeFree.{basic-from, basic-body, basic-is, elements-none}
 use Rattle.memory.specs.Memory.{word-at}
 use Rattle.memory.proofs.Laws.{word-in}
 use Rattle.forms.specs.declared.form.Form.{Form}

@@ -16,8 +16,8 @@ use Rattle.paper.specs.Store.{Store, ∅, entry, Value, basic, component}
 use Rattle.paper.specs.Layout.{Field, number, text, Row, table-row, little, name-text, kind, content, elements, each, rows, value-rows, text-of, row-text, texts, figure, records, deepest}
 use Rattle.paper.specs.Layout as Layout
 use Rattle.paper.specs.WellFormed.{IsBasic, AreBasic, IsStore, IsValue}
-use Rattle.paper.proofs.Decoded.Parts.{length-little, complement-below}
-use Rattle.paper.proofs.Decoded.Header.{Lasts, records-length}
+use Rattle.theorems.proofs.Decoded.Parts.{length-little, complement-below}
+use Rattle.theorems.proofs.Decoded.Header.{Lasts, records-length}
 use Rattle.memory.specs.Memory.{part-at, stored}
 use Rattle.memory.proofs.Laws.{stored-front}
 use Rattle.rows.specs.View.{byte-of, label-text, label-of, value-of, seen, groups, view}

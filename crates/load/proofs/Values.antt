@@ -12,7 +12,7 @@ use Rattle.paper.specs.Bytes.{if_then_else_}
 use Rattle.paper.specs.Syntax.{Name, Path, Basic, boolean, null, integer, decimal, string, reference, vector}
 use Rattle.paper.specs.Layout.{little, name-text, names-text, path-text, long-text, kind, content, text-of}
 use Rattle.paper.specs.WellFormed.{IsBasic}
-use Rattle.paper.proofs.Decoded.Parts.{length-little}
+use Rattle.theorems.proofs.Decoded.Parts.{length-little}
 use Rattle.memory.specs.Memory.{word-at, part-at}
 use Rattle.memory.proofs.Laws.{same-word, word-in, word-little, part-in}
 use Rattle.load.specs.Load.{name-size, names-size, path-size, value-size}

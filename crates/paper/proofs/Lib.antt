@@ -1,11 +1,2 @@
 pub mod Open
-pub mod Laws
 pub mod Checked
-pub mod Compiled
-pub mod Decoded
-pub mod Legal
-pub mod Demands
-pub mod Determined
-pub mod Scanned
-pub mod ReadExactly
-pub mod Instances

@@ -14,10 +14,10 @@ use Rattle.paper.specs.Steps.{steps, run}
 use Rattle.paper.specs.TableDecoder.{table-of}
 use Rattle.paper.specs.StepDecoder.{block-of}
 use Rattle.paper.specs.Operations.{or-refused, run-op, main-op}
-use Rattle.paper.proofs.Compiled.{compiled}
-use Rattle.paper.proofs.Decoded.StepList.{steps-exact}
-use Rattle.paper.proofs.Decoded.Table.{table-exact, table-complete}
-use Rattle.paper.proofs.Legal.Bounds.{of-table, to-table, evaluates}
+use Rattle.theorems.proofs.Compiled.{compiled}
+use Rattle.theorems.proofs.Decoded.StepList.{steps-exact}
+use Rattle.theorems.proofs.Decoded.Table.{table-exact, table-complete}
+use Rattle.theorems.proofs.Legal.Bounds.{of-table, to-table, evaluates}
 use Rattle.run.specs.Runs.{run-main-op}
 
 module _ (list start : List ℕ) (o w₁ w₂ : ℕ) (l : 32792 ≤ o) (l₁ : 65536 ≤ w₁) (l₂ : 65536 ≤ w₂) where

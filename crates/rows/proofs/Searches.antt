@@ -14,7 +14,7 @@ use borrow.Author.Tests.{lt-ltb, le-ltb, eq-eqb, ne-eqb}
 use Rattle.paper.specs.Bytes.{if_then_else_}
 use Rattle.paper.specs.Syntax.{Name}
 use Rattle.paper.specs.Layout.{Row, deepest}
-use Rattle.paper.proofs.Laws.DecodeAt.{word}
+use Rattle.theorems.proofs.Laws.DecodeAt.{word}
 use Rattle.memory.proofs.Laws.{fit}
 use Rattle.rows.specs.View.{label-of, kept, rows-in}
 use Rattle.rows.specs.Search.{calls, seek, deeper, text-bytes}

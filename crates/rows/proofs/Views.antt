@@ -12,8 +12,8 @@ use lib.Dec.{leb}
 use borrow.Author.Tests.{le-leb, lt-leb}
 use Rattle.paper.specs.Bytes.{if_then_else_}
 use Rattle.paper.specs.Layout.{Row, text-of, little}
-use Rattle.paper.proofs.Laws.DecodeAt.{Bytes, word}
-use Rattle.paper.proofs.Decoded.Parts.{length-little}
+use Rattle.theorems.proofs.Laws.DecodeAt.{Bytes, word}
+use Rattle.theorems.proofs.Decoded.Parts.{length-little}
 use Rattle.memory.specs.Memory.{stored, slid}
 use Rattle.memory.proofs.Laws.{same-word, word-below, word-little, length-own, length-stored, stored-in, slid-in, slid-out, fit}
 use Rattle.rows.specs.View.{label-of, value-of, seen, groups, view, kept}

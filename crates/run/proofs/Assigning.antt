@@ -15,7 +15,7 @@ use Rattle.paper.specs.Store.{Store, ∅, entry, Value, put, bind}
 use Rattle.paper.specs.Bounds.{bounded, assign}
 use Rattle.paper.specs.Meaning.{copy}
 use Rattle.paper.specs.Layout.{Field, number, text, Row, name-text, rows, deepest, texts}
-use Rattle.paper.proofs.Legal.Bounds.{Bounded}
+use Rattle.theorems.proofs.Legal.Bounds.{Bounded}
 use Rattle.rows.specs.View.{view, rows-in, label-of, label-text, name-of, seen, groups}
 use Rattle.rows.specs.Search.{deeper, text-bytes}
 use Rattle.rows.specs.Change.{field-at}

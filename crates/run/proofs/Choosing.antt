@@ -13,8 +13,8 @@ use Rattle.paper.specs.Syntax.{Name, Basic}
 use Rattle.paper.specs.Store.{Store, basic, component, lookup, find}
 use Rattle.paper.specs.Meaning.{main}
 use Rattle.paper.specs.Layout.{Row, table}
-use Rattle.paper.proofs.Laws.Gives.{Gives, gives, gives-bind, gives-ok}
-use Rattle.paper.proofs.Legal.Bounds.{Main, Main.absent, Main.no-component, mains, main-numbers}
+use Rattle.theorems.proofs.Laws.Gives.{Gives, gives, gives-bind, gives-ok}
+use Rattle.theorems.proofs.Legal.Bounds.{Main, Main.absent, Main.no-component, mains, main-numbers}
 use Rattle.memory.specs.Memory.{stored}
 use Rattle.rows.specs.View.{view, rows-in}
 use Rattle.rows.specs.Search.{seek, deeper}

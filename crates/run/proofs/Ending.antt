@@ -17,13 +17,13 @@ use Rattle.paper.specs.WellFormed.{IsTable, IsStepList}
 use Rattle.paper.specs.TableDecoder.{table-of}
 use Rattle.paper.specs.StepDecoder.{block-of}
 use Rattle.paper.specs.Operations.{Outcome, or-refused, told, written, cleared, zeros, wiped, run-op, runs}
-use Rattle.paper.proofs.Compiled.{compiled}
-use Rattle.paper.proofs.Decoded.StepList.{steps-exact}
-use Rattle.paper.proofs.Decoded.Table.{table-exact}
-use Rattle.paper.proofs.Demands.Answers.{from}
-use Rattle.paper.proofs.Laws.Answers.{assoc, under}
-use Rattle.paper.proofs.Laws.Gives.{Gives, gives, refuses, gives-bind}
-use Rattle.paper.proofs.Legal.Bounds.{Bounded, IsBounded, of-table, evaluates, evaluates-numbers}
+use Rattle.theorems.proofs.Compiled.{compiled}
+use Rattle.theorems.proofs.Decoded.StepList.{steps-exact}
+use Rattle.theorems.proofs.Decoded.Table.{table-exact}
+use Rattle.theorems.proofs.Demands.Answers.{from}
+use Rattle.theorems.proofs.Laws.Answers.{assoc, under}
+use Rattle.theorems.proofs.Laws.Gives.{Gives, gives, refuses, gives-bind}
+use Rattle.theorems.proofs.Legal.Bounds.{Bounded, IsBounded, of-table, evaluates, evaluates-numbers}
 use Rattle.memory.specs.Memory.{stored}
 use Rattle.memory.proofs.Laws.{clear-wiped}
 use Rattle.forms.specs.Header.{text-of}

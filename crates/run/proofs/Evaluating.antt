@@ -18,9 +18,9 @@ use Rattle.paper.specs.Steps as Steps
 use Rattle.paper.specs.Steps.{Step, steps, statement-steps, value-steps, prototype-steps}
 use Rattle.paper.specs.StepLayout.{step-row, item, step-rows, all-rows}
 use Rattle.paper.specs.WellFormed.{IsPath, IsPlace, IsBasic, IsBlock, IsStatement, IsValueOf, ArePrototypes}
-use Rattle.paper.proofs.Decoded.Parts.{length-little}
-use Rattle.paper.proofs.Laws.Answers.{assoc, under}
-use Rattle.paper.proofs.Laws.DecodeAt.{word}
+use Rattle.theorems.proofs.Decoded.Parts.{length-little}
+use Rattle.theorems.proofs.Laws.Answers.{assoc, under}
+use Rattle.theorems.proofs.Laws.DecodeAt.{word}
 use Rattle.memory.specs.Memory.{word-at, stored}
 use Rattle.memory.proofs.Laws.{word-in, same-word, byte-stored, length-stored, word-little}
 use Rattle.rows.specs.View.{view, label-text}

@@ -14,8 +14,8 @@ use Rattle.paper.specs.Layout.{Field, number, text, Row, little, path-text, lon
 use Rattle.paper.specs.Steps.{make, take, enter, leave, done, set, link}
 use Rattle.paper.specs.StepLayout.{step-row, item, step-rows}
 use Rattle.paper.specs.WellFormed.{IsBasic, AreBasic}
-use Rattle.paper.proofs.Decoded.Parts.{length-little, complement-below}
-use Rattle.paper.proofs.Decoded.Rows.{kind-below}
+use Rattle.theorems.proofs.Decoded.Parts.{length-little, complement-below}
+use Rattle.theorems.proofs.Decoded.Rows.{kind-below}
 use Rattle.memory.proofs.Laws.{word-out}
 use Rattle.load.proofs.Values.{word-there}
 use Rattle.run.specs.Listed.{step-field, Lies}

@@ -15,7 +15,7 @@ use Rattle.paper.specs.Steps as Steps
 use Rattle.paper.specs.Steps.{steps, statement-steps, value-steps, prototype-steps}
 use Rattle.paper.specs.StepLayout.{step-row, step-rows, all-rows}
 use Rattle.paper.specs.WellFormed.{IsPath, IsBlock, IsStatement, IsValueOf, ArePrototypes}
-use Rattle.paper.proofs.Laws.Answers.{assoc}
+use Rattle.theorems.proofs.Laws.Answers.{assoc}
 use Rattle.rows.specs.View.{view}
 use Rattle.run.specs.declared.put.Ran.{Ran}
 use Rattle.run.specs.declared.put.Ran.the-variants.{Done}

@@ -19,7 +19,7 @@ use Rattle.rows.specs.Flat.{flat, flat-value, Low}
 use Rattle.rows.proofs.Searches.{deeper-in}
 use Rattle.rows.proofs.Fields.{field-word}
 use Rattle.rows.proofs.Views.{length-view, row-here, here-size, view-cons, view-end, view-splice}
-use Rattle.paper.proofs.Laws.DecodeAt.{Bytes, word}
+use Rattle.theorems.proofs.Laws.DecodeAt.{Bytes, word}
 use Rattle.memory.proofs.Laws.{word-below}
 use Rattle.rows.proofs.Trees.{head, beneath, flat-head, head-depth, deep-flat, deeper-deep, deeper-low, deeper-value, Spot, Spot.absent, Spot.present, spot, text-bytes-++, deepest-++}
 use Rattle.run.specs.declared.put.Size.{Size}

@@ -16,9 +16,9 @@ use Rattle.paper.specs.WellFormed.{IsTable, IsStepList}
 use Rattle.paper.specs.TableDecoder.{absent, table-of}
 use Rattle.paper.specs.StepDecoder.{block-of}
 use Rattle.paper.specs.Operations.{or-refused}
-use Rattle.paper.proofs.Compiled.{compiled}
-use Rattle.paper.proofs.Decoded.StepList.{steps-exact}
-use Rattle.paper.proofs.Decoded.Table.{table-exact}
+use Rattle.theorems.proofs.Compiled.{compiled}
+use Rattle.theorems.proofs.Decoded.StepList.{steps-exact}
+use Rattle.theorems.proofs.Decoded.Table.{table-exact}
 use Rattle.forms.specs.declared.form.Form.the-variants.{Table, Steps}
 use Rattle.forms.specs.Header.{records-of, text-of}
 use Rattle.table.specs.Whole.{is-table-of}

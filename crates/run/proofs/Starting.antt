@@ -14,8 +14,8 @@ use Rattle.paper.specs.StepLayout.{step-row, item, step-rows, all-rows, step-li
 use Rattle.paper.specs.WellFormed.{IsTable, IsStepList}
 use Rattle.paper.specs.TableDecoder.{in-table}
 use Rattle.paper.specs.StepDecoder.{in-steps}
-use Rattle.paper.proofs.Decoded.Parts.{length-little}
-use Rattle.paper.proofs.Decoded.Header.{Lasts, lasts-++, records-length}
+use Rattle.theorems.proofs.Decoded.Parts.{length-little}
+use Rattle.theorems.proofs.Decoded.Header.{Lasts, lasts-++, records-length}
 use Rattle.memory.specs.Memory.{word-at, part-at}
 use Rattle.forms.specs.declared.form.Form.the-variants.{Table, Steps}
 use Rattle.forms.specs.Form.{form-of, size-of}

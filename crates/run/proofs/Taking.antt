@@ -13,7 +13,7 @@ use Rattle.paper.specs.Bytes.{if_then_else_}
 use Rattle.paper.specs.Syntax.{Name}
 use Rattle.paper.specs.Store.{Store, Value, basic, component}
 use Rattle.paper.specs.Layout.{Field, number, text, Row, name-text, text-of, row-text, table-row, kind, content, deepest}
-use Rattle.paper.proofs.Laws.DecodeAt.{Bytes, word}
+use Rattle.theorems.proofs.Laws.DecodeAt.{Bytes, word}
 use Rattle.memory.specs.Memory.{part-at, stored, within}
 use Rattle.memory.proofs.Laws.{word-below, stored-in, length-stored}
 use Rattle.rows.specs.View.{groups, view, rows-in, byte-of, text-part, label-of, label-text, value-of}

@@ -17,10 +17,10 @@ use Rattle.paper.specs.Layout as Layout
 use Rattle.paper.specs.Steps.{set}
 use Rattle.paper.specs.StepLayout.{step-row, item, step-rows}
 use Rattle.paper.specs.WellFormed.{IsBasic, AreBasic}
-use Rattle.paper.proofs.Decoded.Header.{Lasts, lasts-++}
-use Rattle.paper.proofs.Decoded.Parts.{length-little}
-use Rattle.paper.proofs.Decoded.Rows.{kind-below}
-use Rattle.paper.proofs.Laws.DecodeAt.{Bytes}
+use Rattle.theorems.proofs.Decoded.Header.{Lasts, lasts-++}
+use Rattle.theorems.proofs.Decoded.Parts.{length-little}
+use Rattle.theorems.proofs.Decoded.Rows.{kind-below}
+use Rattle.theorems.proofs.Laws.DecodeAt.{Bytes}
 use Rattle.memory.specs.Memory.{word-at, part-at, stored}
 use Rattle.memory.proofs.Laws.{fit, word-in, word-out, word-below, length-part, part-out, stored-in, stored-out}
 use Rattle.rows.specs.View.{text-part, label-text, label-of, value-of, groups, view}

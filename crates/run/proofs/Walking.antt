@@ -14,7 +14,7 @@ use Rattle.paper.specs.Bytes.{if_then_else_}
 use Rattle.paper.specs.Syntax.{Name, Path}
 use Rattle.paper.specs.Store.{Store}
 use Rattle.paper.specs.Layout.{Row}
-use Rattle.paper.proofs.Laws.DecodeAt.{word}
+use Rattle.theorems.proofs.Laws.DecodeAt.{word}
 use Rattle.memory.specs.Memory.{word-at}
 use Rattle.memory.proofs.Laws.{word-in, same-word}
 use Rattle.rows.specs.View.{name-of, groups, view, kept, rows-in}

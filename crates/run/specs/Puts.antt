@@ -9,7 +9,7 @@ use Rattle.paper.specs.Store.{Store, Value, put}
 use Rattle.paper.specs.Bounds.{assign}
 use Rattle.paper.specs.Meaning.{copy}
 use Rattle.paper.specs.Layout.{Row, deepest}
-use Rattle.paper.proofs.Legal.Bounds.{Bounded}
+use Rattle.theorems.proofs.Legal.Bounds.{Bounded}
 use Rattle.rows.specs.View.{view}
 use Rattle.rows.specs.Search.{text-bytes}
 use Rattle.rows.specs.Flat.{flat, flat-value, Low}

@@ -13,7 +13,7 @@ use Rattle.paper.specs.Steps.{steps, run}
 use Rattle.paper.specs.TableDecoder.{table-of}
 use Rattle.paper.specs.StepDecoder.{block-of}
 use Rattle.paper.specs.Operations.{Outcome, or-refused, told, written, cleared}
-use Rattle.paper.proofs.Legal.Bounds.{IsBounded}
+use Rattle.theorems.proofs.Legal.Bounds.{IsBounded}
 use Rattle.forms.specs.Header.{text-of}
 use Rattle.rows.specs.View.{view}
 use Rattle.rows.specs.Flat.{flat}

@@ -13,8 +13,8 @@ use borrow.Author.Tests.{eq-eqb, ne-eqb, eqb-true, leb-true}
 use Rattle.paper.specs.Bytes.{at, is, among, between, empty, if_then_else_}
 use Rattle.paper.specs.Tokens.{octal, escaped}
 use Rattle.paper.specs.Scanner.{meant, quoted}
-use Rattle.paper.proofs.Laws.Answers.{if-case}
-use Rattle.paper.proofs.Scanned.Classes.{and-left, and-right, or-right}
+use Rattle.theorems.proofs.Laws.Answers.{if-case}
+use Rattle.theorems.proofs.Scanned.Classes.{and-left, and-right, or-right}
 use Rattle.spelling.specs.declared.text.Meant.the-variants.{Byte, Bad}
 use Rattle.spelling.specs.declared.text.Quoted.the-variants.{Closed}
 use Rattle.spelling.specs.Text.{meantOf, escapeOf, octalsAt, octalValue, quotes, quotedOf, isClosed, textIn, put, itselfOf}

@@ -16,10 +16,10 @@ use Rattle.paper.specs.Maybe.{_>>=_, require}
 use Rattle.paper.specs.Syntax.{Value, basic, link, extends, Prototypes, εᴾ, named, block}
 use Rattle.paper.specs.Decoder.{Cursor, Raw, record-at, field, path-of}
 use Rattle.paper.specs.StepDecoder.{in-steps, plain, bare, some-prototype}
-use Rattle.paper.proofs.Laws.Answers.{if-case}
-use Rattle.paper.proofs.Laws.Found.{Found, nothing, found, found-bind, found-require, found-some}
-use Rattle.paper.proofs.Laws.DecodeAt.{Bytes, word, raw-at, cursor, record-here, record-short}
-use Rattle.paper.proofs.Laws.DecodeFree.{basic-from, statements-from, prototypes-from, value-body, value-is, prototype-body, prototypes-is}
+use Rattle.theorems.proofs.Laws.Answers.{if-case}
+use Rattle.theorems.proofs.Laws.Found.{Found, nothing, found, found-bind, found-require, found-some}
+use Rattle.theorems.proofs.Laws.DecodeAt.{Bytes, word, raw-at, cursor, record-here, record-short}
+use Rattle.theorems.proofs.Laws.DecodeFree.{basic-from, statements-from, prototypes-from, value-body, value-is, prototype-body, prototypes-is}
 use Rattle.memory.specs.Memory.{word-at}
 use Rattle.memory.proofs.Laws.{fit, word-in}
 use Rattle.forms.specs.declared.form.Form.the-variants.{Steps}

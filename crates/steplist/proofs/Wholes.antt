@@ -10,7 +10,7 @@ use borrow.Author.Tests.{leb-true, leb-false}
 use Rattle.paper.specs.Maybe.{_>>=_}
 use Rattle.paper.specs.TableDecoder.{absent}
 use Rattle.paper.specs.StepDecoder.{in-steps, block-of}
-use Rattle.paper.proofs.Laws.DecodeFree.{block-of-is}
+use Rattle.theorems.proofs.Laws.DecodeFree.{block-of-is}
 use Rattle.forms.specs.declared.form.Form.the-variants.{Steps}
 use Rattle.layout.specs.declared.walk.Walk.the-variants.{Walked}
 use Rattle.forms.specs.Form.{form-of, number-of, size-of, most-text}

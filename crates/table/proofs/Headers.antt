@@ -11,8 +11,8 @@ use Rattle.paper.specs.Maybe.{_>>=_, require}
 use Rattle.paper.specs.Store.{Store}
 use Rattle.paper.specs.Decoder.{ended}
 use Rattle.paper.specs.TableDecoder.{in-table, absent, distinct, table-of}
-use Rattle.paper.proofs.Laws.DecodeAt.{cursor}
-use Rattle.paper.proofs.Laws.DecodeFree.{table-of-is}
+use Rattle.theorems.proofs.Laws.DecodeAt.{cursor}
+use Rattle.theorems.proofs.Laws.DecodeFree.{table-of-is}
 use Rattle.forms.specs.declared.form.Form.the-variants.{Table}
 use Rattle.layout.specs.declared.walk.Walk.the-variants.{Walked}
 use Rattle.forms.specs.Form.{form-of, number-of, size-of, most-text}

@@ -13,8 +13,8 @@ use Rattle.paper.specs.Maybe.{_>>=_, require}
 use Rattle.paper.specs.Store.{entry}
 use Rattle.paper.specs.Decoder.{field, name-of}
 use Rattle.paper.specs.TableDecoder.{in-table}
-use Rattle.paper.proofs.Laws.DecodeAt.{Bytes, word, raw-at, cursor}
-use Rattle.paper.proofs.Laws.DecodeFree.{basic-from, entries-from, entry-value, entry-body, entries-some}
+use Rattle.theorems.proofs.Laws.DecodeAt.{Bytes, word, raw-at, cursor}
+use Rattle.theorems.proofs.Laws.DecodeFree.{basic-from, entries-from, entry-value, entry-body, entries-some}
 use Rattle.memory.specs.Memory.{word-at}
 use Rattle.memory.proofs.Laws.{fit, word-in}
 use Rattle.forms.specs.declared.form.Form.the-variants.{Table}

@@ -16,14 +16,14 @@ use Rattle.paper.specs.Layout.{name-text, Field, number, text, Row, elements, e
 use Rattle.paper.specs.WellFormed.{IsName}
 use Rattle.paper.specs.Decoder.{Cursor, field, name-of}
 use Rattle.paper.specs.TableDecoder.{in-table}
-use Rattle.paper.proofs.Decoded.Header.{Lasts, lasts-++, records-length}
-use Rattle.paper.proofs.Decoded.Parts.{exact-name}
-use Rattle.paper.proofs.Decoded.Rows.{Took, Front, Fielded, field-sound, basic-sound}
-use Rattle.paper.proofs.Decoded.Table.{table-lawful, EntriesRead, entries-sound}
-use Rattle.paper.proofs.Laws.Answers.{if-case}
-use Rattle.paper.proofs.Laws.Found.{found-some}
-use Rattle.paper.proofs.Laws.DecodeAt.{Bytes, word, raw-at, cursor}
-use Rattle.paper.proofs.Laws.DecodeFree.{basic-from, entries-from, entry-value}
+use Rattle.theorems.proofs.Decoded.Header.{Lasts, lasts-++, records-length}
+use Rattle.theorems.proofs.Decoded.Parts.{exact-name}
+use Rattle.theorems.proofs.Decoded.Rows.{Took, Front, Fielded, field-sound, basic-sound}
+use Rattle.theorems.proofs.Decoded.Table.{table-lawful, EntriesRead, entries-sound}
+use Rattle.theorems.proofs.Laws.Answers.{if-case}
+use Rattle.theorems.proofs.Laws.Found.{found-some}
+use Rattle.theorems.proofs.Laws.DecodeAt.{Bytes, word, raw-at, cursor}
+use Rattle.theorems.proofs.Laws.DecodeFree.{basic-from, entries-from, entry-value}
 use Rattle.memory.specs.Memory.{part-at}
 use Rattle.memory.proofs.Laws.{word-below, word-in, part-in}
 use Rattle.table.specs.Walk.{heads, value-here, entries-here}

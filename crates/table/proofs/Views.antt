@@ -16,10 +16,10 @@ use Rattle.paper.specs.Store as S
 use Rattle.paper.specs.Layout.{records, table}
 use Rattle.paper.specs.Decoder.{Cursor, ended}
 use Rattle.paper.specs.TableDecoder.{in-table, absent, distinct, table-of}
-use Rattle.paper.proofs.Decoded.Header.{ended-sound}
-use Rattle.paper.proofs.Laws.Found.{found-some}
-use Rattle.paper.proofs.Laws.DecodeAt.{Bytes, word, raw-at, cursor}
-use Rattle.paper.proofs.Laws.DecodeFree.{basic-from, entries-from, entry-value}
+use Rattle.theorems.proofs.Decoded.Header.{ended-sound}
+use Rattle.theorems.proofs.Laws.Found.{found-some}
+use Rattle.theorems.proofs.Laws.DecodeAt.{Bytes, word, raw-at, cursor}
+use Rattle.theorems.proofs.Laws.DecodeFree.{basic-from, entries-from, entry-value}
 use Rattle.table.specs.Walk.{value-here, entries-here}
 use Rattle.table.specs.Child.{Holds}
 use Rattle.forms.specs.declared.form.Form.the-variants.{Table}
@@ -30,8 +30,8 @@ use Rattle.table.specs.Main.{Tabled}
 use Rattle.table.proofs.Inside.{bind-some, some-is, entry-of}
 use Rattle.table.proofs.Headers.{table-whole}
 use Rattle.paper.specs.Layout.{number, table-row}
-use Rattle.paper.proofs.Decoded.Rows.{BasicRead, basic-sound}
-use Rattle.paper.proofs.Decoded.Table.{table-lawful}
+use Rattle.theorems.proofs.Decoded.Rows.{BasicRead, basic-sound}
+use Rattle.theorems.proofs.Decoded.Table.{table-lawful}
 use Rattle.memory.proofs.Laws.{word-below}
 
 -- ---- the value at a record

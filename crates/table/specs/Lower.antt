@@ -7,8 +7,8 @@ use lib.ListN.{length, take, drop, getD}
 use lib.Dec.{leb, ltb, eqb}
 use Rattle.paper.specs.Bytes.{if_then_else_}
 use Rattle.paper.specs.Layout.{little}
-use Rattle.paper.proofs.Decoded.Header.{headed}
-use Rattle.paper.proofs.Laws.DecodeAt.{word}
+use Rattle.theorems.proofs.Decoded.Header.{headed}
+use Rattle.theorems.proofs.Laws.DecodeAt.{word}
 
 -- a name's place; 65,535 is none
 unfoldable pub moved-label : ℕ → ℕ → ℕ

@@ -9,7 +9,7 @@ use Rattle.paper.specs.Syntax.{Basic}
 use Rattle.paper.specs.Tokens.{reserved, member}
 use Rattle.paper.specs.Scanner.{scan}
 use Rattle.paper.specs.Decoder.{one-name, one-decimal, long-of, leaf, field}
-use Rattle.paper.proofs.Laws.DecodeAt.{cursor}
+use Rattle.theorems.proofs.Laws.DecodeAt.{cursor}
 use Rattle.texts.specs.declared.Past.{Past}
 use Rattle.texts.specs.declared.Past.the-variants.{At, Bad}
 

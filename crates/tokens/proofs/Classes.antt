@@ -7,7 +7,7 @@ use lib.Dec.{eqb, leb}
 use lib.ListN.{getD}
 use Rattle.paper.specs.Bytes.{bytes, is, among}
 use Rattle.paper.specs.Tokens.{blank, digit, starts, goes-on}
-use Rattle.paper.proofs.Scanned.Classes.{and-left, and-right}
+use Rattle.theorems.proofs.Scanned.Classes.{and-left, and-right}
 use Rattle.tokens.specs.Class.{Class, Classed}
 use Rattle.tokens.proofs.Table.{agree, agreed, entry}
 

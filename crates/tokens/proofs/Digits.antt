@@ -18,9 +18,9 @@ use Rattle.paper.specs.Layout.{complement}
 use Rattle.tokens.specs.declared.numbers.Amount.{Amount}
 use Rattle.tokens.specs.declared.numbers.Amount.the-variants.{Fits, TooLarge}
 use Rattle.tokens.specs.Numbers.{Digits, numberLen, amountOf, complementOf, integerOf}
-use Rattle.paper.proofs.Laws.Rescan.{span-le}
-use Rattle.paper.proofs.Laws.Answers.{if-case}
-use Rattle.paper.proofs.Scanned.Classes.{and-left}
+use Rattle.theorems.proofs.Laws.Rescan.{span-le}
+use Rattle.theorems.proofs.Laws.Answers.{if-case}
+use Rattle.theorems.proofs.Scanned.Classes.{and-left}
 
 -- ---- lengths
 

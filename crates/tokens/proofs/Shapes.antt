@@ -12,9 +12,9 @@ use Rattle.paper.specs.Bytes.{at, is, empty}
 use Rattle.paper.specs.Syntax.{integer, decimal, string}
 use Rattle.paper.specs.Tokens.{starts, goes-on, in-range, valued, name, literal, mark, end}
 use Rattle.paper.specs.Scanner.{Scanned, token, fault, span, named, number, quoted, text, scan, whole}
-use Rattle.paper.proofs.Laws.Answers.{if-case}
-use Rattle.paper.proofs.Laws.Rescan.{span-le}
-use Rattle.paper.proofs.Scanned.Classes.{or-left}
+use Rattle.theorems.proofs.Laws.Answers.{if-case}
+use Rattle.theorems.proofs.Laws.Rescan.{span-le}
+use Rattle.theorems.proofs.Scanned.Classes.{or-left}
 use Rattle.tokens.specs.Numbers.{numberLen}
 use Rattle.spelling.proofs.At.{at-in}
 use Rattle.tokens.proofs.Runs.{span-step}

@@ -10,8 +10,8 @@ use lib.ListN.{length, drop, getD, drop-of-length-le, length-drop}
 use lib.Seq.{drop-cons, drop-drop}
 use lib.Dec.{ltb, eqb, lit<}
 use borrow.Author.Tests.{eqb-true, ltb-true, ltb-false}
-use Rattle.paper.proofs.Scanned.Classes.{and-right}
-use Rattle.paper.proofs.Laws.Rescan.{span-le}
+use Rattle.theorems.proofs.Scanned.Classes.{and-right}
+use Rattle.theorems.proofs.Laws.Rescan.{span-le}
 use Rattle.paper.specs.Bytes.{at, is, if_then_else_}
 use Rattle.paper.specs.Answer.{Answer, ok, refused}
 use Rattle.paper.specs.Tokens.{blank, Here, past}

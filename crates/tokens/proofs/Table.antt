@@ -5,7 +5,7 @@ use mathlib.Core.List.{List, [], _∷_}
 use Prim.Native.Nat.{ℕ, zero, suc, _+_, _<_}
 use native.Mathlib.Nat.{add-zero, zero-add, add-suc, suc-add, le-of-suc-le-suc, not-suc-le-zero}
 use lib.ListN.{length, getD}
-use Rattle.paper.proofs.Scanned.Classes.{and-left, and-right}
+use Rattle.theorems.proofs.Scanned.Classes.{and-left, and-right}
 
 -- two tests say the same
 abbrev pub agree : Bool → Bool → Bool

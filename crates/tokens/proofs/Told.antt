@@ -16,7 +16,7 @@ use Rattle.paper.specs.Syntax.{Basic, integer, decimal, string}
 use Rattle.paper.specs.Tokens.{Token, name, literal, mark, end, Here, past, reserved, member, valued, in-range, is-name, is-word, is-mark, is-end}
 use Rattle.paper.specs.Scanner.{Scanned, token, fault, scan, found, next}
 use Rattle.paper.specs.Layout.{complement}
-use Rattle.paper.proofs.Scanned.Classes.{or-left, or-right}
+use Rattle.theorems.proofs.Scanned.Classes.{or-left, or-right}
 use Rattle.tokens.specs.declared.Kind.{Kind}
 use Rattle.tokens.specs.declared.Kind.the-variants.{Name, Word, Integer, Decimal, Text, Mark, End}
 use Rattle.tokens.specs.declared.Token.the-variants.{Found, Refused}

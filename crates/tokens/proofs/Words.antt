@@ -12,7 +12,7 @@ use lib.Seq.{drop-cons}
 use borrow.Author.Tests.{eq-eqb, eqb-true, leb-true}
 use Rattle.paper.specs.Bytes.{bytes, same}
 use Rattle.paper.specs.Tokens.{reserved}
-use Rattle.paper.proofs.Scanned.Classes.{and-left, and-right, is-false}
+use Rattle.theorems.proofs.Scanned.Classes.{and-left, and-right, is-false}
 use Rattle.tokens.specs.declared.Kind.the-variants.{Name, Word}
 use Rattle.tokens.specs.Kinds.{wordFrom}
 use Rattle.tokens.proofs.Table.{entry}

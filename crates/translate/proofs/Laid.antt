@@ -5,8 +5,8 @@ use mathlib.Core.Path.{_≡_, sym, _∙_, ap}
 use mathlib.Core.List.{List, [], _∷_, _++_, append-assoc}
 use lib.ListN.{length, drop, length-append}
 use Rattle.paper.specs.Layout.{Row, row-bytes, row-text, records, texts, laid-out}
-use Rattle.paper.proofs.Decoded.Parts.{length-little}
-use Rattle.paper.proofs.Decoded.Header.{Lasts, records-length}
+use Rattle.theorems.proofs.Decoded.Parts.{length-little}
+use Rattle.theorems.proofs.Decoded.Header.{Lasts, records-length}
 use Rattle.memory.specs.Memory.{stored}
 use Rattle.memory.proofs.Laws.{length-stored, then-stored, stored-none, stored-apart, stored-front}
 use Rattle.translate.specs.Lay.{lay-row, lay, head}

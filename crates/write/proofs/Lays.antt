@@ -10,8 +10,8 @@ use lib.Seq.{take-all, take-nil}
 use borrow.Author.Tests.{le-leb, lt-leb}
 use Rattle.paper.specs.Bytes.{if_then_else_}
 use Rattle.paper.specs.Layout.{Row, little, row-bytes, row-text, records, texts, laid-out}
-use Rattle.paper.proofs.Decoded.Parts.{length-little}
-use Rattle.paper.proofs.Decoded.Header.{Lasts, records-length}
+use Rattle.theorems.proofs.Decoded.Parts.{length-little}
+use Rattle.theorems.proofs.Decoded.Header.{Lasts, records-length}
 use Rattle.memory.specs.Memory.{stored}
 use Rattle.memory.proofs.Laws.{length-stored, then-stored, stored-none, stored-apart, stored-out}
 use Rattle.rows.specs.View.{seen, groups, view, kept, rows-in}

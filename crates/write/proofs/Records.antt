@@ -11,7 +11,7 @@ use borrow.Author.Tests.{le-leb, lt-leb, eq-eqb, ne-eqb}
 use Rattle.paper.specs.Bytes.{if_then_else_}
 use Rattle.paper.specs.Layout.{Row, little, text-of, figure}
 use Rattle.paper.specs.Layout as Layout
-use Rattle.paper.proofs.Decoded.Parts.{length-little}
+use Rattle.theorems.proofs.Decoded.Parts.{length-little}
 use Rattle.memory.specs.Memory.{stored}
 use Rattle.memory.proofs.Laws.{then-stored}
 use Rattle.rows.specs.View.{label-of, value-of, view, rows-in}

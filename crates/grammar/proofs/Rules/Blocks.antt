@@ -15,7 +15,7 @@ use Rattle.paper.specs.Tokens.{Token, Here, mark, is-mark, is-name}
 use Rattle.paper.specs.Scanner.{next}
 use Rattle.paper.specs.Reader.{expect, path}
 use Rattle.paper.specs.Layout.{path-text}
-use Rattle.paper.proofs.Laws.Answers.{assoc, under}
+use Rattle.theorems.proofs.Laws.Answers.{assoc, under}
 use Rattle.grammar.specs.Drafts.{Draft, draft, take-draft, bare-draft, draft-statements, draft-prototypes, text-size}
 use Rattle.grammar.specs.Places.{here, Shown}
 use Rattle.grammar.specs.Seen.{NotMark}

@@ -13,7 +13,7 @@ use borrow.Author.Tests.{ltb-true, lt-ltb, le-ltb}
 use Rattle.paper.specs.Bytes.{if_then_else_}
 use Rattle.paper.specs.Layout.{Row, Field, number, little, row-bytes, figure}
 use Rattle.paper.specs.StepLayout.{step-row}
-use Rattle.paper.proofs.Decoded.Parts.{length-little}
+use Rattle.theorems.proofs.Decoded.Parts.{length-little}
 use Rattle.memory.specs.Memory.{stored}
 use Rattle.memory.proofs.Laws.{stored-sets}
 use Rattle.grammar.specs.Drafts.{Draft, text-size}

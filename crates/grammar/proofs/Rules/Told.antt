@@ -13,7 +13,7 @@ use Rattle.paper.specs.Answer.{Answer, ok, refused, _>>=_, demand}
 use Rattle.paper.specs.Syntax.{integer, decimal, string}
 use Rattle.paper.specs.Tokens.{Token, name, literal, mark, end, is-end, escaped, reserved, Here}
 use Rattle.paper.specs.Scanner.{Scanned, token, fault, meant, quoted, text, named, number, scan, next}
-use Rattle.paper.proofs.Laws.Answers.{if-case}
+use Rattle.theorems.proofs.Laws.Answers.{if-case}
 use Rattle.tokens.specs.declared.Kind.{Kind}
 use Rattle.tokens.specs.declared.Kind.the-variants.{Name, Word, Integer, Decimal, Text, Mark, End}
 use Rattle.tokens.specs.declared.Token.{Token as Answered}

@@ -12,7 +12,7 @@ use Rattle.paper.specs.Answer.{Answer, ok, refused, _>>=_, demand}
 use Rattle.paper.specs.Tokens.{Here, is-end}
 use Rattle.paper.specs.Scanner.{next}
 use Rattle.paper.specs.Operations.{zeros, wiped}
-use Rattle.paper.proofs.Laws.Answers.{assoc}
+use Rattle.theorems.proofs.Laws.Answers.{assoc}
 use Rattle.memory.specs.Memory.{stored}
 use Rattle.memory.proofs.Laws.{clear-wiped, length-zeros}
 use Rattle.grammar.specs.Drafts.{Draft, draft-statements, drafts, text-size}

@@ -15,9 +15,9 @@ use Rattle.paper.specs.Syntax.{Path, Basic, integer, decimal, string}
 use Rattle.paper.specs.Tokens.{Token, name, literal, mark, end, blank, Here, past}
 use Rattle.paper.specs.Scanner.{Scanned, token, fault, gap, skip, scan, found, next}
 use Rattle.paper.specs.Reader.{expect, expect-word, names, path}
-use Rattle.paper.proofs.Laws.Answers.{if-case}
-use Rattle.paper.proofs.Laws.Gives.{Gives, gives, refuses, gives-bind, gives-demand, gives-ok}
-use Rattle.paper.proofs.Laws.Rescan.{Shape, at-end, a-name, a-decimal, an-integer, a-string, a-mark, a-fault, scan-shape}
+use Rattle.theorems.proofs.Laws.Answers.{if-case}
+use Rattle.theorems.proofs.Laws.Gives.{Gives, gives, refuses, gives-bind, gives-demand, gives-ok}
+use Rattle.theorems.proofs.Laws.Rescan.{Shape, at-end, a-name, a-decimal, an-integer, a-string, a-mark, a-fault, scan-shape}
 use Rattle.grammar.specs.Places.{here}
 use Rattle.grammar.specs.Ties.{Reads}
 

@@ -2,7 +2,7 @@
 use Prim.Native.Nat.{_+_}
 use lib.ListN.{length}
 use native.Mathlib.Omega.{arith}
-use Rattle.paper.proofs.Laws.DecodeAt.{long-end}
+use Rattle.theorems.proofs.Laws.DecodeAt.{long-end}
 use Rattle.memory.proofs.Laws.{fits-yes, fits-no}
 use Rattle.texts.proofs.Texts.{long-over, long-good}
 use borrow.Author.Needs.{needs}

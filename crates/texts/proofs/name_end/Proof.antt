@@ -3,7 +3,7 @@ use Prim.Native.Nat.{_+_}
 use native.Mathlib.Omega.{arith}
 use mathlib.Core.Path.{_∙_, sym}
 use borrow.Author.Tests.{not-true, not-false}
-use Rattle.paper.proofs.Laws.DecodeAt.{name-end}
+use Rattle.theorems.proofs.Laws.DecodeAt.{name-end}
 use Rattle.memory.proofs.Laws.{fits-yes, fits-no}
 use Rattle.texts.specs.Text.{legal-name}
 use Rattle.texts.proofs.Texts.{name-long, name-good, name-illegal}

@@ -16,10 +16,10 @@ use Rattle.paper.specs.Scanner.{token, scan}
 use Rattle.paper.specs.Layout.{Field, number, text, Row, little, path-text, long-text, text-of, row-text, row-bytes, figure, texts, records, laid-out, kind, elements, each}
 use Rattle.paper.specs.Steps.{Step, make, take, enter, leave, done, set, link}
 use Rattle.paper.specs.StepLayout.{step-row, item, step-rows, all-rows}
-use Rattle.paper.proofs.Decoded.Parts.{length-little}
-use Rattle.paper.proofs.Decoded.Header.{Lasts}
-use Rattle.paper.proofs.Decoded.Rows.{kind-below}
-use Rattle.paper.proofs.Laws.DecodeAt.{word}
+use Rattle.theorems.proofs.Decoded.Parts.{length-little}
+use Rattle.theorems.proofs.Decoded.Header.{Lasts}
+use Rattle.theorems.proofs.Decoded.Rows.{kind-below}
+use Rattle.theorems.proofs.Laws.DecodeAt.{word}
 use Rattle.memory.specs.Memory.{word-at}
 use Rattle.memory.proofs.Laws.{word-in, same-word, word-little, fit, stored-sets, byte-stored, byte-other}
 use Rattle.grammar.specs.Drafts.{Draft, text-size}

@@ -18,8 +18,8 @@ use Rattle.paper.specs.Steps.{Step, steps}
 use Rattle.paper.specs.StepLayout.{all-rows, step-list, listed}
 use Rattle.paper.specs.Operations.{zeros, wiped, cleared, told, written, translated, Outcome, translates}
 use Rattle.paper.specs.Operations as operations
-use Rattle.paper.proofs.Legal.Read.{translate-numbers}
-use Rattle.paper.proofs.Laws.Gives.{Gives, gives, refuses, gives-demand, gives-ok}
+use Rattle.theorems.proofs.Legal.Read.{translate-numbers}
+use Rattle.theorems.proofs.Laws.Gives.{Gives, gives, refuses, gives-demand, gives-ok}
 use Rattle.memory.specs.Memory.{stored}
 use Rattle.memory.proofs.Laws.{clear-wiped, length-zeros}
 use Rattle.grammar.specs.Drafts.{Draft, drafts, text-size}

@@ -13,8 +13,8 @@ use Rattle.paper.specs.Tokens.{Token, name, literal, mark, end, is-name, is-mar
 use Rattle.paper.specs.Scanner.{next, skip, found, scan}
 use Rattle.paper.specs.Reader.{expect, names, path}
 use Rattle.paper.specs.Layout.{name-text, names-text, path-text}
-use Rattle.paper.proofs.Laws.Answers.{if-case}
-use Rattle.paper.proofs.Laws.Gives.{Gives, gives, refuses, gives-bind, gives-demand, gives-ok}
+use Rattle.theorems.proofs.Laws.Answers.{if-case}
+use Rattle.theorems.proofs.Laws.Gives.{Gives, gives, refuses, gives-bind, gives-demand, gives-ok}
 use Rattle.memory.specs.Memory.{stored}
 use Rattle.memory.proofs.Laws.{length-stored, then-stored, stored-none, fit}
 use Rattle.grammar.specs.Places.{here}

@@ -16,9 +16,9 @@ use Rattle.paper.specs.Syntax.{Basic, decimal, string}
 use Rattle.paper.specs.Tokens.{Token, name, literal, mark, end, is-name, is-mark, Here, past, blank, digit}
 use Rattle.paper.specs.Scanner.{Scanned, token, next, skip, found, scan, gap}
 use Rattle.paper.specs.Layout.{little, long-text}
-use Rattle.paper.proofs.Decoded.Parts.{length-little}
-use Rattle.paper.proofs.Scanned.Classes.{outside-among}
-use Rattle.paper.proofs.Laws.Rescan.{Shape, a-name, scan-shape, decimal-shape, at-end, a-decimal, an-integer, a-string, a-mark, a-fault}
+use Rattle.theorems.proofs.Decoded.Parts.{length-little}
+use Rattle.theorems.proofs.Scanned.Classes.{outside-among}
+use Rattle.theorems.proofs.Laws.Rescan.{Shape, a-name, scan-shape, decimal-shape, at-end, a-decimal, an-integer, a-string, a-mark, a-fault}
 use Rattle.memory.specs.Memory.{stored}
 use Rattle.memory.proofs.Laws.{stored-in, then-stored, fit}
 use Rattle.tokens.specs.declared.Kind.{Kind}

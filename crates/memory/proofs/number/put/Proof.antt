@@ -7,7 +7,7 @@ use lib.ListN.{length, length-set}
 use lib.Seq.{sets}
 use borrow.Author.Needs.{needs}
 use Rattle.paper.specs.Layout.{little}
-use Rattle.paper.proofs.Decoded.Parts.{length-little}
+use Rattle.theorems.proofs.Decoded.Parts.{length-little}
 use Rattle.memory.proofs.Laws.{fits-yes, fits-no, stored-out, stored-sets}
 use Rattle.memory.proofs.Turns.{turn, little-left}
 use Rattle.memory.proofs.number.put.Statement.{statement}

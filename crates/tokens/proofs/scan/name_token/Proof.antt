@@ -7,7 +7,7 @@ use native.Mathlib.Nat.{sub-zero}
 use lib.ListN.{take}
 use Rattle.paper.specs.Tokens.{goes-on, reserved}
 use Rattle.paper.specs.Scanner.{named}
-use Rattle.paper.proofs.Laws.Rescan.{span-le}
+use Rattle.theorems.proofs.Laws.Rescan.{span-le}
 use Rattle.tokens.specs.declared.scan.Front.the-variants.{Read}
 use Rattle.tokens.specs.Kinds.{wordFrom}
 use Rattle.tokens.specs.Scans.{scanOf}

@@ -1,0 +1,9 @@
+pub mod Laws
+pub mod Compiled
+pub mod Decoded
+pub mod Legal
+pub mod Demands
+pub mod Determined
+pub mod Scanned
+pub mod ReadExactly
+pub mod Instances
