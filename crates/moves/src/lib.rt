@@ -1,13 +1,13 @@
 // Rows replaced, and rows copied to another depth.
+use memory::copy;
+use memory::part;
+use memory::slide;
 use rows::row::depth_at;
 use rows::row::kind_at;
 use rows::row::label_at;
 use rows::row::put_row;
 use rows::row::size_at;
 use rows::row::value_at;
-use memory::copy;
-use memory::part;
-use memory::slide;
 ghost use mathlib.Core.Path.{_≡_};
 ghost use mathlib.Core.Bool.{_&&_};
 ghost use Prim.Native.Nat.{_+_, _-_, _*_, _≤_};

@@ -9,7 +9,6 @@ ghost use Rattle.paper.specs.Bytes.{at};
 ghost use Rattle.paper.specs.Scanner.{scan};
 ghost use Rattle.spelling.specs.Spelt.{partOf, Decoded, decoded};
 use crate::text::write_text;
-
 pub use text::Quoted;
 pub use text::measure;
 

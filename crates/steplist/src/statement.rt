@@ -1,13 +1,13 @@
 // The parts of statements that hold no statements: a set's basic, a link's path, a prototype that is a reference.
 use crate::record::plain;
-use forms::Form;
-use texts::Past;
-use layout::Walk;
-use layout::basic;
 use fields::label_at;
-use texts::path_here;
 use fields::span_at;
 use fields::value_at;
+use forms::Form;
+use layout::Walk;
+use layout::basic;
+use texts::Past;
+use texts::path_here;
 ghost use mathlib.Core.Path.{_≡_};
 ghost use Prim.Native.Nat.{_+_, _≤_};
 ghost use lib.ListN.{length};

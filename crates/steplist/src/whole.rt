@@ -2,10 +2,10 @@
 use crate::walk::statements;
 use forms::Form;
 use forms::Size;
-use layout::Walk;
 use forms::count;
 use forms::records_of;
 use forms::text_of;
+use layout::Walk;
 ghost use mathlib.Core.Path.{_≡_};
 ghost use Rattle.steplist.specs.Whole.{whole-in, is-step-list-of};
 

@@ -1,9 +1,9 @@
 // A look among the attributes of a component, in the records of a table.
-use texts::byte;
 use fields::label_at;
 use fields::span_at;
 use memory::fits;
 use memory::part;
+use texts::byte;
 ghost use mathlib.Core.Path.{_≡_};
 ghost use Rattle.paper.specs.Bytes.{same};
 ghost use Rattle.table.specs.Child.{named-at, span-in, found-in};

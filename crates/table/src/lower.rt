@@ -1,5 +1,4 @@
 // The table of a component's attributes, written from the records and the text that they have in a whole table.
-use texts::byte;
 use fields::label_at;
 use fields::span_at;
 use memory::copy;
@@ -9,6 +8,7 @@ use memory::part;
 use memory::put16;
 use memory::put32;
 use memory::put64;
+use texts::byte;
 ghost use mathlib.Core.Path.{_≡_};
 ghost use mathlib.Core.List.{_++_};
 ghost use Prim.Native.Nat.{_+_, _-_, _*_, _≤_, _<_};

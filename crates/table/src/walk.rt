@@ -1,14 +1,14 @@
 // Records of a table: where those of an attribute's value, and of a component's attributes, end, if they are as they should be.
-use forms::Form;
-use texts::Past;
-use layout::Walk;
-use layout::basic;
 use fields::depth_at;
 use fields::kind_at;
 use fields::label_at;
-use texts::name_here;
 use fields::span_at;
 use fields::value_at;
+use forms::Form;
+use layout::Walk;
+use layout::basic;
+use texts::Past;
+use texts::name_here;
 ghost use mathlib.Core.Path.{_≡_};
 ghost use Prim.Native.Nat.{_+_, _≤_};
 ghost use lib.ListN.{length};

@@ -3,10 +3,10 @@ use crate::once::distinct;
 use crate::walk::entries;
 use forms::Form;
 use forms::Size;
-use layout::Walk;
 use forms::count;
 use forms::records_of;
 use forms::text_of;
+use layout::Walk;
 ghost use mathlib.Core.Path.{_≡_};
 ghost use Rattle.table.specs.Whole.{whole-in, is-table-of};
 

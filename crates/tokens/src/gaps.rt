@@ -8,8 +8,8 @@ ghost use Rattle.paper.specs.Scanner.{span, closing, gap};
 ghost use Rattle.tokens.specs.Class.{Classed};
 ghost use Rattle.tokens.specs.Gaps.{endOf, skipOf, skips};
 use crate::class::BLANK;
-use spelling::byte_at;
 use crate::class::class_at;
+use spelling::byte_at;
 
 const STAR: usize = 42;
 

@@ -8,8 +8,8 @@ ghost use Rattle.paper.specs.Scanner.{span, digits-after, sign, whole, fraction
 ghost use Rattle.tokens.specs.Class.{Classed};
 ghost use Rattle.tokens.specs.Numbers.{Digits, amountOf, complementOf, integerOf, numberLen};
 use crate::class::DIGIT;
-use spelling::byte_at;
 use crate::class::wide;
+use spelling::byte_at;
 
 const PLUS: usize = 43;
 

@@ -13,7 +13,6 @@ use crate::class::MARK;
 use crate::class::MINUS;
 use crate::class::QUOTE;
 use crate::class::START;
-use spelling::byte_at;
 use crate::class::class_at;
 use crate::names::kind_of;
 use crate::names::name_len;
@@ -22,6 +21,7 @@ use crate::numbers::integer;
 use crate::numbers::number_len;
 use crate::numbers::whole_len;
 use spelling::Quoted;
+use spelling::byte_at;
 use spelling::measure;
 
 const POINT: usize = 46;
