@@ -6,11 +6,10 @@ use mathlib.Core.List.{List}
 use lib.ListN.{length}
 use Rattle.paper.specs.Answer.{Answer, ok, refused}
 use Rattle.paper.specs.Operations.{Outcome, told, translate-op, run-op, main-op, resolve-op, translates, runs, takes-main, resolves}
-use Rattle.paper.proofs.Demands.{demands}
-use Rattle.paper.proofs.Demands.Answers.{MainNumber, short, no-table, no-main}
-use Rattle.paper.proofs.Legal.Bounds.{Main, absent, no-component}
+use Rattle.theorems.proofs.Demands.{demands}
+use Rattle.theorems.proofs.Demands.Answers.{MainNumber, short, no-table, no-main}
+use Rattle.theorems.proofs.Legal.Bounds.{Main, absent, no-component}
 use Rattle.capi.specs.Called.{Called, coded, in-c}
-use Rattle.capi.proofs.Places.{Near, near-place, translate-op-near, run-op-near, main-op-near, resolve-op-near}
 
 -- ---- the two cases of an answer
 
@@ -38,8 +37,8 @@ unfolding told
 untold (ok b) n p e = absurd (let z : _≡_ {A = ℕ} 0 1 = cc in omega arith)
 untold (refused k q) n p e = cc
 
-small : (a : Answer (List ℕ)) → Near a → ((n p : ℕ) → a ≡ refused n p → n ≤ 20) → (n p : ℕ) → told a ≡ refused n p → (n ≤ 20) × (p ≤ 32768)
-small a h f n p e = let r = untold a n p e in (f n p r, near-place a n p h r)
+small : (a : Answer (List ℕ)) → ((n p : ℕ) → a ≡ refused n p → p ≤ 32768) → ((n p : ℕ) → a ≡ refused n p → n ≤ 20) → (n p : ℕ) → told a ≡ refused n p → (n ≤ 20) × (p ≤ 32768)
+small a h f n p e = let r = untold a n p e in (f n p r, h n p r)
 
 main-most : {n : ℕ} → MainNumber n → n ≤ 20
 main-most short = omega arith
@@ -50,21 +49,21 @@ main-most (no-main no-component) = omega arith
 pub translates-small : (source o w : List ℕ) → Small (translates source o w)
 unfolding translates
 translates-small source o w =
-    small (translate-op source (length o) (length w)) (translate-op-near source (length o) (length w)) (λ n p e. omega (arith, demands .translate-numbers source (length o) (length w) n p e .1))
+    small (translate-op source (length o) (length w)) (demands .translate-places source (length o) (length w)) (λ n p e. omega (arith, demands .translate-numbers source (length o) (length w) n p e .1))
 
 pub runs-small : (list start o w₁ w₂ : List ℕ) → Small (runs list start o w₁ w₂)
 unfolding runs
 runs-small list start o w₁ w₂ =
-    small (run-op list start (length o) (length w₁) (length w₂)) (run-op-near list start (length o) (length w₁) (length w₂)) (λ n p e. omega (arith, demands .run-numbers list start (length o) (length w₁) (length w₂) n p e .1))
+    small (run-op list start (length o) (length w₁) (length w₂)) (demands .run-places list start (length o) (length w₁) (length w₂)) (λ n p e. omega (arith, demands .run-numbers list start (length o) (length w₁) (length w₂) n p e .1))
 
 pub main-small : (whole o : List ℕ) → Small (takes-main whole o)
 unfolding takes-main
-main-small whole o = small (main-op whole (length o)) (main-op-near whole (length o)) (λ n p e. main-most (demands .main-numbers whole (length o) n p e))
+main-small whole o = small (main-op whole (length o)) (demands .main-places whole (length o)) (λ n p e. main-most (demands .main-numbers whole (length o) n p e))
 
 pub resolves-small : (source o w₁ w₂ w₃ : List ℕ) → Small (resolves source o w₁ w₂ w₃)
 unfolding resolves
 resolves-small source o w₁ w₂ w₃ =
-    small (resolve-op source (length o) (length w₁) (length w₂) (length w₃)) (resolve-op-near source (length o) (length w₁) (length w₂) (length w₃)) (λ n p e. demands .resolve-numbers source (length o) (length w₁) (length w₂) (length w₃) n p e .1)
+    small (resolve-op source (length o) (length w₁) (length w₂) (length w₃)) (demands .resolve-places source (length o) (length w₁) (length w₂) (length w₃)) (λ n p e. demands .resolve-numbers source (length o) (length w₁) (length w₂) (length w₃) n p e .1)
 
 -- ---- what C can take apart again
 

@@ -9,7 +9,7 @@ use borrow.Author.Tests.{le-leb}
 use Rattle.paper.specs.Answer.{Answer, demand, _>>=_}
 use Rattle.paper.specs.Operations.{Outcome, resolve, resolve-op, told, written, cleared, resolves}
 use Rattle.paper.specs.Resolved.{Resolves}
-use Rattle.paper.proofs.Demands.{demands}
+use Rattle.theorems.proofs.Demands.{demands}
 use Rattle.run.specs.declared.operation.Answer.{Answer as Ran}
 use Rattle.resolve.specs.Resolves.{outcome}
 

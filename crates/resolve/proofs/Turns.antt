@@ -12,11 +12,11 @@ use Rattle.paper.specs.Store.{∅}
 use Rattle.paper.specs.Layout.{table}
 use Rattle.paper.specs.Operations.{Outcome, translate, resolve, translate-op, run-op, main-op, resolve-op, told, written, zeros, wiped, cleared, translates, resolves}
 use Rattle.paper.proofs.Open.{all}
-use Rattle.paper.proofs.Demands.{demands}
-use Rattle.paper.proofs.Laws.Answers.{under}
-use Rattle.paper.proofs.Laws.Gives.{Gives, gives, refuses, gives-bind}
-use Rattle.paper.proofs.Legal.Read.{translate-well, translate-numbers}
-use Rattle.paper.proofs.Decoded.StepList.{steps-length}
+use Rattle.theorems.proofs.Demands.{demands}
+use Rattle.theorems.proofs.Laws.Answers.{under}
+use Rattle.theorems.proofs.Laws.Gives.{Gives, gives, refuses, gives-bind}
+use Rattle.theorems.proofs.Legal.Read.{translate-well, translate-numbers}
+use Rattle.theorems.proofs.Decoded.StepList.{steps-length}
 use Rattle.memory.specs.Memory.{stored}
 use Rattle.memory.proofs.Laws.{clear-wiped}
 use Rattle.translate.specs.Answers as T

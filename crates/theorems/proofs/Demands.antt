@@ -1,6 +1,7 @@
 -- Theorem 5, demands: what the operations are asked to do, as statements about their answers. Assumes nothing.
 pub mod Answers
 pub mod Order
+pub mod Places
 pub mod Resolving
 use Prim.Native.Nat.{ℕ, _≤_}
 use mathlib.Core.Path.{_≡_}
@@ -16,6 +17,7 @@ use Rattle.paper.specs.Resolved.{Resolves}
 use Rattle.theorems.proofs.Laws.Gives.{gives-refused}
 use Answers.{tabled, runs-as-meant, resolve-is, TranslateNumber, RunNumber, MainNumber, ResolveNumber, translate-gives, run-gives, main-gives, resolve-gives}
 use Resolving.{resolves-exactly}
+use Places.{near-place, translate-op-near, run-op-near, main-op-near, resolve-op-near}
 use Order.{Lent, run-rest, main-rest, translate-lent, run-lent, main-lent, resolve-lent, run-9, run-10}
 
 pub record Demands : Type 0 where
@@ -34,6 +36,11 @@ pub record Demands : Type 0 where
   pub run-numbers : (list start : List ℕ) (o w₁ w₂ n p : ℕ) → run-op list start o w₁ w₂ ≡ refused n p → RunNumber n
   pub main-numbers : (whole : List ℕ) (o n p : ℕ) → main-op whole o ≡ refused n p → MainNumber n
   pub resolve-numbers : (source : List ℕ) (o w₁ w₂ w₃ n p : ℕ) → resolve-op source o w₁ w₂ w₃ ≡ refused n p → ResolveNumber n
+  -- a refusal's place is in the source or at its end, or 0: at most 32,768
+  pub translate-places : (source : List ℕ) (o w n p : ℕ) → translate-op source o w ≡ refused n p → p ≤ 32768
+  pub run-places : (list start : List ℕ) (o w₁ w₂ n p : ℕ) → run-op list start o w₁ w₂ ≡ refused n p → p ≤ 32768
+  pub main-places : (whole : List ℕ) (o n p : ℕ) → main-op whole o ≡ refused n p → p ≤ 32768
+  pub resolve-places : (source : List ℕ) (o w₁ w₂ w₃ n p : ℕ) → resolve-op source o w₁ w₂ w₃ ≡ refused n p → p ≤ 32768
   -- 8 comes first, and exactly where a lent slice is too short
   pub translate-8 : (source : List ℕ) (o w : ℕ) → Lent ((53272 ≤ o) × ((65536 ≤ w) × Unit {0})) (translate source) (translate-op source o w)
   pub run-8 : (list start : List ℕ) (o w₁ w₂ : ℕ) → Lent ((32792 ≤ o) × ((65536 ≤ w₁) × ((65536 ≤ w₂) × Unit {0}))) (run-rest list start) (run-op list start o w₁ w₂)
@@ -53,6 +60,10 @@ demands =
       run-numbers = λ list start o w₁ w₂ n p e. gives-refused (run-gives list start o w₁ w₂) e;
       main-numbers = λ whole o n p e. gives-refused (main-gives whole o) e;
       resolve-numbers = λ source o w₁ w₂ w₃ n p e. gives-refused (resolve-gives source o w₁ w₂ w₃) e;
+      translate-places = λ source o w n p e. near-place _ n p (translate-op-near source o w) e;
+      run-places = λ list start o w₁ w₂ n p e. near-place _ n p (run-op-near list start o w₁ w₂) e;
+      main-places = λ whole o n p e. near-place _ n p (main-op-near whole o) e;
+      resolve-places = λ source o w₁ w₂ w₃ n p e. near-place _ n p (resolve-op-near source o w₁ w₂ w₃) e;
       translate-8 = translate-lent;
       run-8 = run-lent;
       main-8 = main-lent;

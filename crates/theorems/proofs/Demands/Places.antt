@@ -25,10 +25,10 @@ use Rattle.paper.specs.WellFormed.{IsPlace, IsBlock, IsStatement, IsValueOf, Ar
 use Rattle.paper.specs.TableDecoder.{table-of}
 use Rattle.paper.specs.StepDecoder.{block-of}
 use Rattle.paper.specs.Operations as Op
-use Rattle.paper.proofs.Compiled.{compiled}
-use Rattle.paper.proofs.Decoded.StepList.{steps-exact}
-use Rattle.paper.proofs.Legal.Read.{translate-well}
-use Rattle.paper.proofs.ReadExactly.{read-exactly}
+use Rattle.theorems.proofs.Compiled.{compiled}
+use Rattle.theorems.proofs.Decoded.StepList.{steps-exact}
+use Rattle.theorems.proofs.Legal.Read.{translate-well}
+use Rattle.theorems.proofs.ReadExactly.{read-exactly}
 
 -- a refusal, if it is one, has such a place
 abbrev pub Near : {X : Type 0} → Answer X → Type 0
