@@ -1,10 +1,10 @@
--- `write::table::count` meets its contract. Assumes nothing.
+-- `write::whole::count` meets its contract. Assumes nothing.
 use native.Mathlib.Omega.{arith}
 use mathlib.Core.Path.{sym}
 use borrow.Author.Needs.{needs}
 use Rattle.rows.proofs.Views.{kept-is, kept-many, kept-short}
-use Rattle.write.proofs.table.count.Statement.{statement}
-use Rattle.write.proofs.table.count.Tie as tie
+use Rattle.write.proofs.whole.count.Statement.{statement}
+use Rattle.write.proofs.whole.count.Tie as tie
 
 returns : tie.Need-returns
 returns c = (sym (kept-many (c .before .args .w .now) (c .before .args .n) (c .if1 .taken)), record { few = omega arith; within = omega arith })

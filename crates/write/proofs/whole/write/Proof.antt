@@ -1,8 +1,8 @@
--- `write::table::write` meets its contract. Assumes nothing.
+-- `write::whole::write` meets its contract. Assumes nothing.
 use borrow.Author.Needs.{needs}
 use Rattle.write.proofs.Lays.{write-short, write-put}
-use Rattle.write.proofs.table.write.Statement.{statement}
-use Rattle.write.proofs.table.write.Tie as tie
+use Rattle.write.proofs.whole.write.Statement.{statement}
+use Rattle.write.proofs.whole.write.Tie as tie
 
 count-requires : tie.Need-count-requires
 count-requires c κs = search needs

@@ -1,4 +1,4 @@
--- `write::table::text_size`: what is counted and what is left come to the whole. Assumes nothing.
+-- `write::whole::text_size`: what is counted and what is left come to the whole. Assumes nothing.
 use Prim.Native.Nat.{_+_, _*_, _-_, _≤_}
 use native.Mathlib.Omega.{arith}
 use mathlib.Core.Path.{_≡_}
@@ -7,8 +7,8 @@ use borrow.Author.Needs.{needs}
 use Rattle.paper.specs.Layout.{texts}
 use Rattle.rows.specs.View.{view}
 use Rattle.write.proofs.Lays.{size-more, size-end}
-use Rattle.write.proofs.table.text_size.Statement.{statement}
-use Rattle.write.proofs.table.text_size.Tie as tie
+use Rattle.write.proofs.whole.text_size.Statement.{statement}
+use Rattle.write.proofs.whole.text_size.Tie as tie
 
 abbrev Inv-loop : tie.InvT-loop
 Inv-loop w lo hi t u sum₀ i₀ sum i = (lo ≤ i) × (i ≤ hi) × (sum ≤ 65791 * (i - lo)) × (sum + length (texts (drop i (view t u w hi))) ≡ length (texts (drop lo (view t u w hi))))

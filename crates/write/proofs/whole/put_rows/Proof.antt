@@ -1,9 +1,9 @@
--- `write::table::put_rows`: what the rows that are left make of the slice is what all of them make of it. Assumes nothing.
+-- `write::whole::put_rows`: what the rows that are left make of the slice is what all of them make of it. Assumes nothing.
 use Prim.Native.Nat.{_-_}
 use native.Mathlib.Omega.{arith}
 use Rattle.write.proofs.Lays.{RowsLoop, rows-begin, rows-record, rows-texts, rows-more, rows-end}
-use Rattle.write.proofs.table.put_rows.Statement.{statement}
-use Rattle.write.proofs.table.put_rows.Tie as tie
+use Rattle.write.proofs.whole.put_rows.Statement.{statement}
+use Rattle.write.proofs.whole.put_rows.Tie as tie
 
 abbrev Inv-loop : tie.InvT-loop
 Inv-loop w lo hi up t u out₀ base i₀ at₀ pos₀ out i at pos = RowsLoop t u w lo hi up base out₀ out i at pos

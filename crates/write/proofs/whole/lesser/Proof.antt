@@ -1,9 +1,9 @@
--- `write::table::lesser` meets its contract. Assumes nothing.
+-- `write::whole::lesser` meets its contract. Assumes nothing.
 use native.Mathlib.Omega.{arith}
 use mathlib.Core.Path.{refl}
 use mathlib.Core.Logic.{inl, inr}
-use Rattle.write.proofs.table.lesser.Statement.{statement}
-use Rattle.write.proofs.table.lesser.Tie as tie
+use Rattle.write.proofs.whole.lesser.Statement.{statement}
+use Rattle.write.proofs.whole.lesser.Tie as tie
 
 returns : tie.Need-returns
 returns c = (omega arith, omega arith, inl refl)

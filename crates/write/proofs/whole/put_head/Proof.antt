@@ -1,8 +1,8 @@
--- `write::table::put_head`: six numbers, one behind another. Assumes nothing.
+-- `write::whole::put_head`: six numbers, one behind another. Assumes nothing.
 use borrow.Author.Needs.{needs}
 use Rattle.write.proofs.Lays.{head-put}
-use Rattle.write.proofs.table.put_head.Statement.{statement}
-use Rattle.write.proofs.table.put_head.Tie as tie
+use Rattle.write.proofs.whole.put_head.Statement.{statement}
+use Rattle.write.proofs.whole.put_head.Tie as tie
 
 mul-base : tie.Need-mul-base
 mul-base c = search needs
