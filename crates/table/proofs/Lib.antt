@@ -3,7 +3,3 @@ pub mod Steps
 pub mod Inside
 pub mod Children
 pub mod Headers
-pub mod Lowers
-pub mod Moves
-pub mod Views
-pub mod Mains

@@ -1,5 +1,3 @@
 pub mod Walk
 pub mod Child
 pub mod Whole
-pub mod Lower
-pub mod Main

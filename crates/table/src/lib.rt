@@ -1,8 +1,6 @@
-// Tables: whether bytes are one, a look into one, and the main table of one.
+// Tables: whether bytes are one, and a look into one.
 mod child;
-mod lower;
 mod once;
-mod operation;
 mod walk;
 mod whole;
 
@@ -10,6 +8,4 @@ pub use child::Found;
 pub use child::find_child;
 pub use child::name_at;
 pub use child::span_within;
-pub use operation::Answer;
-pub use operation::main;
 pub use whole::is_table;

@@ -1,0 +1,4 @@
+pub mod Lowers
+pub mod Moves
+pub mod Views
+pub mod Mains
