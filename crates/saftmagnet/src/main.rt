@@ -9,6 +9,7 @@
 // then nothing goes to standard output. The exit status is always 0, since a program in Rattle has no other; `./sf` gives one.
 //
 // Of an input one byte more is read than any that is accepted has. An operation refuses so many bytes as it would refuse all of them.
+// The slices lie on the stack; 512 KiB of it are enough.
 mod input;
 mod output;
 
