@@ -1,7 +1,7 @@
 // The four operations as C functions: each slice is a pointer and a length, the answer one number.
+use main_table::main;
 use resolve::resolve;
 use run::run;
-use take::main;
 use translate::translate;
 ghost use mathlib.Core.Path.{_≡_};
 ghost use mathlib.Core.List.{[], _∷_};
@@ -50,8 +50,8 @@ pub extern "C" fn sf_main(table: &[u8], out: &mut [u8]) -> u64
     ensures { λ r. ⌜ _≡_ {A = Called} (record { result = r; output = now (out .exit); works = [] }) (in-c (takes-main (now (table .entry)) (now (out .entry)))) ⌝ }
 {
     match main(table, out) {
-        take::Answer::Done(n) => n as u64,
-        take::Answer::Refused(number, place) => refusal(number, place),
+        main_table::Answer::Done(n) => n as u64,
+        main_table::Answer::Refused(number, place) => refusal(number, place),
     }
 }
 

@@ -44,9 +44,9 @@ fn translate_source(source: &[u8]) {
 
 fn main_of(table: &[u8]) {
     let mut out = [0u8; 32792];
-    match take::main(table, &mut out) {
-        take::Answer::Done(n) => put(part(&out, 0, n)),
-        take::Answer::Refused(number, place) => refused(number, place),
+    match main_table::main(table, &mut out) {
+        main_table::Answer::Done(n) => put(part(&out, 0, n)),
+        main_table::Answer::Refused(number, place) => refused(number, place),
     }
 }
 

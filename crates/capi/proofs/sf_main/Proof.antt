@@ -2,7 +2,7 @@
 use mathlib.Core.Path.{ap}
 use mathlib.Core.List.{[], _∷_}
 use Rattle.paper.specs.Operations.{takes-main}
-use Rattle.take.specs.Main.{answered}
+use Rattle.main_table.specs.Main.{answered}
 use Rattle.capi.proofs.Calls.{done-call, refused-call, small-call, main-small}
 use borrow.Author.Needs.{needs}
 use Rattle.capi.proofs.sf_main.Statement.{statement}
