@@ -25,7 +25,7 @@ use Rattle.theorems.proofs.Laws.Answers.{assoc, under}
 use Rattle.theorems.proofs.Laws.Gives.{Gives, gives, refuses, gives-bind}
 use Rattle.theorems.proofs.Legal.Bounds.{Bounded, IsBounded, of-table, evaluates, evaluates-numbers}
 use Rattle.memory.specs.Memory.{stored}
-use Rattle.memory.proofs.Laws.{clear-wiped}
+use Rattle.memory.proofs.Laws.{clear-wiped, length-stored}
 use Rattle.forms.specs.Header.{text-of}
 use Rattle.rows.specs.View.{view}
 use Rattle.write.specs.Tabled.{tabled, chosen, fitted}
@@ -172,11 +172,20 @@ part-wiped xs ys z h f e =
     let k : length y ≡ length ys + (length xs - 65536) = length-append ys (drop 65536 xs) ∙ ap (λ n. length ys + n) (length-drop 65536 xs) in
     e ∙ clear-wiped y (omega arith) ∙ ap (λ x. zeros 65536 ++ x) (drop-at ys (drop 65536 xs) 65536 l)
 
+-- how much of it was lent, by what is left
+part-lent : (xs ys z : List ℕ) → 65536 ≤ length xs → length z ≡ length xs → z ≡ stored (ys ++ drop 65536 xs) 0 (zeros 65536) → length ys ≡ length (take 65536 xs)
+part-lent xs ys z h k e =
+    let f : length z ≡ length (ys ++ drop 65536 xs) = ap length e ∙ length-stored (ys ++ drop 65536 xs) 0 (zeros 65536) in
+    let g : length (ys ++ drop 65536 xs) ≡ length ys + (length xs - 65536) = length-append ys (drop 65536 xs) ∙ ap (λ n. length ys + n) (length-drop 65536 xs) in
+    let l : length (take 65536 xs) ≡ 65536 = length-take-le 65536 xs h in
+    omega arith
+
 -- both work slices so, and the answer of the part
 pub ended : (a : Paper.Answer (List ℕ)) (o w₁ w₂ : List ℕ) (x : Outcome) → settled a o w₁ w₂ ≡ x → Gives (λ n. 8 < n) (λ _. Unit {0}) a → 32792 ≤ length o → 65536 ≤ length w₁ → 65536 ≤ length w₂
-    → (o′ y₁ w₁′ y₂ w₂′ : List ℕ) (r : Answer) → AnsweredIs a o o′ r → length y₁ ≡ length (take 65536 w₁) → w₁′ ≡ stored (y₁ ++ drop 65536 w₁) 0 (zeros 65536)
-    → length y₂ ≡ length (take 65536 w₂) → w₂′ ≡ stored (y₂ ++ drop 65536 w₂) 0 (zeros 65536) → outcome r o′ w₁′ w₂′ ≡ x
-ended a o w₁ w₂ x e g h l m o′ y₁ w₁′ y₂ w₂′ r A k₁ e₁ k₂ e₂ = all-settled a o w₁ w₂ h l m g o′ w₁′ w₂′ r A (part-wiped w₁ y₁ w₁′ l k₁ e₁) (part-wiped w₂ y₂ w₂′ m k₂ e₂) ∙ e
+    → (o′ y₁ w₁′ y₂ w₂′ : List ℕ) (r : Answer) → AnsweredIs a o o′ r → length w₁′ ≡ length w₁ → w₁′ ≡ stored (y₁ ++ drop 65536 w₁) 0 (zeros 65536)
+    → length w₂′ ≡ length w₂ → w₂′ ≡ stored (y₂ ++ drop 65536 w₂) 0 (zeros 65536) → outcome r o′ w₁′ w₂′ ≡ x
+ended a o w₁ w₂ x e g h l m o′ y₁ w₁′ y₂ w₂′ r A k₁ e₁ k₂ e₂ =
+    all-settled a o w₁ w₂ h l m g o′ w₁′ w₂′ r A (part-wiped w₁ y₁ w₁′ l (part-lent w₁ y₁ w₁′ l k₁ e₁) e₁) (part-wiped w₂ y₂ w₂′ m (part-lent w₂ y₂ w₂′ m k₂ e₂) e₂) ∙ e
 
 -- ---- run
 

@@ -53,7 +53,7 @@ same-length-3 : tie.Need-same-length-3
 same-length-3 c = part-same (c .before .before .before .before .before .before .before .before .before .before .before .before .before .before .before .before .before .before .before .before .before .before .before .before .before .before .args .work2 .now) (c .before .before .before .before .before .before .before .before .before .before .before .before .before .before .main-of .last .1 .1 .1 .1 .0) (c .before .before .clear2 .last .0) (c .before .before .before .before .before .before .before .before .before .before .before .before .before .before .main-of .kept .1 .1 .1 .1 .0) (c .before .before .clear2 .kept .0)
 
 returns-4 : tie.Need-returns-4
-returns-4 c = let a = c .before .before .before .before .before .before .before .before .before .before .before .before .before .before .before .before .before .before .before .before .before .before .before .before .before .before .args in ended (main-of (store-of (a .steps .now) (a .table .now))) (a .out .now) (a .work1 .now) (a .work2 .now) _ (main-settled (a .steps .now) (a .table .now) (a .out .now) (a .work1 .now) (a .work2 .now)) (main-gives (a .steps .now) (a .table .now)) (c .before .before .before .before .before .before .before .before .before .before .before .before .before .before .before .before .before .before .before .before .if1 .left) (c .before .before .before .before .before .before .before .before .before .before .before .before .before .before .before .before .before .before .before .if2 .left) (c .before .before .before .before .before .before .before .before .before .before .before .before .before .before .before .before .before .before .if3 .left) (c .before .before .before .before .before .before .before .before .before .before .before .before .before .before .main-of .last .1 .1 .0) (c .before .before .before .before .before .before .before .before .before .before .before .before .before .before .main-of .last .1 .1 .1 .0) (c .before .before .before .before .before .before .clear .last .0) (c .before .before .before .before .before .before .before .before .before .before .before .before .before .before .main-of .last .1 .1 .1 .1 .0) (c .before .before .clear2 .last .0) (c .before .before .before .before .before .before .before .before .before .before .before .before .before .before .main-of .result) (c .before .before .before .before .before .before .before .before .before .before .before .before .before .before .main-of .ensures) (c .before .before .before .before .before .before .before .before .before .before .before .before .before .before .main-of .kept .1 .1 .1 .0) (c .before .before .before .before .before .before .clear .ensures) (c .before .before .before .before .before .before .before .before .before .before .before .before .before .before .main-of .kept .1 .1 .1 .1 .0) (c .before .before .clear2 .ensures)
+returns-4 c = let a = c .before .before .before .before .before .before .before .before .before .before .before .before .before .before .before .before .before .before .before .before .before .before .before .before .before .before .args in ended (main-of (store-of (a .steps .now) (a .table .now))) (a .out .now) (a .work1 .now) (a .work2 .now) _ (main-settled (a .steps .now) (a .table .now) (a .out .now) (a .work1 .now) (a .work2 .now)) (main-gives (a .steps .now) (a .table .now)) (c .before .before .before .before .before .before .before .before .before .before .before .before .before .before .before .before .before .before .before .before .if1 .left) (c .before .before .before .before .before .before .before .before .before .before .before .before .before .before .before .before .before .before .before .if2 .left) (c .before .before .before .before .before .before .before .before .before .before .before .before .before .before .before .before .before .before .if3 .left) (c .before .before .before .before .before .before .before .before .before .before .before .before .before .before .main-of .last .1 .1 .0) (c .before .before .before .before .before .before .before .before .before .before .before .before .before .before .main-of .last .1 .1 .1 .0) (c .before .before .before .before .before .before .clear .last .0) (c .before .before .before .before .before .before .before .before .before .before .before .before .before .before .main-of .last .1 .1 .1 .1 .0) (c .before .before .clear2 .last .0) (c .before .before .before .before .before .before .before .before .before .before .before .before .before .before .main-of .result) (c .before .before .before .before .before .before .before .before .before .before .before .before .before .before .main-of .ensures) (same-length-2 c) (c .before .before .before .before .before .before .clear .ensures) (same-length-3 c) (c .before .before .clear2 .ensures)
 
 pub run-main-spec : {M : Type 1} → statement M
 run-main-spec =
