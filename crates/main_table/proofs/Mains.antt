@@ -30,8 +30,8 @@ use Rattle.theorems.proofs.Laws.DecodeAt.{Bytes, word, cursor}
 use Rattle.theorems.proofs.Laws.DecodeFree.{entries-none, table-of-is}
 use Rattle.memory.specs.Memory.{word-at, stored}
 use Rattle.memory.proofs.Laws.{word-in, stored-front}
-use Rattle.main_table.specs.declared.Answer.{Answer}
-use Rattle.main_table.specs.declared.Answer.the-variants.{Done, Refused}
+use Rattle.main_table.specs.declared.operation.Answer.{Answer}
+use Rattle.main_table.specs.declared.operation.Answer.the-variants.{Done, Refused}
 use Rattle.table.specs.Walk.{entries-here}
 use Rattle.table.specs.declared.child.Found.the-variants.{At, Nothing}
 use Rattle.table.specs.Child.{Holds, ChildAt, FoundIs}

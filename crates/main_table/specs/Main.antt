@@ -10,8 +10,8 @@ use Rattle.paper.specs.Store.{Store}
 use Rattle.paper.specs.Layout.{table}
 use Rattle.paper.specs.Meaning.{main}
 use Rattle.paper.specs.Operations.{Outcome, or-refused, told, written}
-use Rattle.main_table.specs.declared.Answer.{Answer}
-use Rattle.main_table.specs.declared.Answer.the-variants.{Done, Refused}
+use Rattle.main_table.specs.declared.operation.Answer.{Answer}
+use Rattle.main_table.specs.declared.operation.Answer.the-variants.{Done, Refused}
 use Rattle.table.specs.Whole.{store-in}
 
 -- the paper's number and values for each case

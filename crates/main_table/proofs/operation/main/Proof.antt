@@ -1,4 +1,4 @@
--- `main_table::main` meets its contract. Assumes nothing.
+-- `main_table::operation::main` meets its contract. Assumes nothing.
 use mathlib.Core.Path.{sym, _∙_, ap}
 use borrow.Author.Tests.{not-true, not-false}
 use Rattle.main_table.specs.Main.{main-of, main-outcome}
@@ -6,8 +6,8 @@ use Rattle.table.proofs.Headers.{table-whole}
 use Rattle.main_table.proofs.Views.{tabled-of}
 use Rattle.main_table.proofs.Mains.{main-short, main-long, main-no-table, not-table, no-header}
 use borrow.Author.Needs.{needs}
-use Rattle.main_table.proofs.main.Statement.{statement}
-use Rattle.main_table.proofs.main.Tie as tie
+use Rattle.main_table.proofs.operation.main.Statement.{statement}
+use Rattle.main_table.proofs.operation.main.Tie as tie
 
 returns : tie.Need-returns
 returns c = main-short (c .before .before .before .args .table .now) (c .before .before .before .args .out .now) (c .if1 .taken)

@@ -1,4 +1,4 @@
--- `main_table::main_in` meets its contract. Assumes nothing.
+-- `main_table::operation::main_in` meets its contract. Assumes nothing.
 use native.Mathlib.Omega.{arith}
 use mathlib.Core.Path.{_∙_, ap}
 use lib.ListN.{length}
@@ -6,8 +6,8 @@ use Rattle.memory.specs.Memory.{stored}
 use Rattle.table.proofs.Children.{found-told}
 use Rattle.main_table.proofs.Mains.{child-within, main-basic, main-inner, main-nothing, outcome-refused, outcome-done, lowered-room}
 use borrow.Author.Needs.{needs}
-use Rattle.main_table.proofs.main_in.Statement.{statement}
-use Rattle.main_table.proofs.main_in.Tie as tie
+use Rattle.main_table.proofs.operation.main_in.Statement.{statement}
+use Rattle.main_table.proofs.operation.main_in.Tie as tie
 
 slice-aggregate-find-child : tie.Need-slice-aggregate-find-child
 slice-aggregate-find-child c = search needs
