@@ -43,12 +43,12 @@ pub(crate) fn put_names(t: &[u8], p: usize, s: &mut [u8], at: usize) -> usize
     put_path(t, p, s, at)
 }
 
-// The place of the last of k names.
-fn last_label(path: &[u8], k: usize) -> usize
-    requires { ⌜ (1 ≤ k) × (k ≤ 64) ⌝ }
-    ensures { λ r. ⌜ (r < 32768) × (word-at 2 (now (path .entry)) ((k - 1) * 2) < 32768 → r ≡ word-at 2 (now (path .entry)) ((k - 1) * 2)) ⌝ }
+// The place of the last of the k names that stand in s; read there, since a part of s makes the proofs of callers slow.
+fn last_label(s: &[u8], k: usize) -> usize
+    requires { ⌜ (1 ≤ k) × (k ≤ 64) × (65536 ≤ length (now s)) ⌝ }
+    ensures { λ r. ⌜ (r < 32768) × (word-at 2 (drop 32768 (now (s .entry))) ((k - 1) * 2) < 32768 → r ≡ word-at 2 (drop 32768 (now (s .entry))) ((k - 1) * 2)) ⌝ }
 {
-    let p = get16(path, (k - 1) * 2) as usize;
+    let p = get16(s, PATH + (k - 1) * 2) as usize;
     if p < TEXT { p } else { 0 }
 }
 
@@ -84,7 +84,7 @@ pub(crate) fn make<'a>(
     requires { ⌜ (n ≤ 1024) × (text ≤ 16384) × (1 ≤ k) × (k ≤ 64) × (65536 ≤ length (now w)) × (65536 ≤ length (now s)) ⌝ }
     ensures { λ r. ⌜ (RanKept k r) × (drop 32768 (now (s .exit)) ≡ drop 32768 (now (s .entry))) × (Makes (now (t .entry)) (now (u .entry)) n text k (now (s .entry)) (now (w .entry)) (now (w .exit)) r) ⌝ }
 {
-    let label = last_label(&s[PATH..], k);
+    let label = last_label(s, k);
     let size = 1 + byte_of(t, u, label);
     put_row(s, 0, 0, k as u16, label as u16, size as u16, 0);
     bind_last(w, n, text, s, k, label, t, u, 1)
@@ -105,7 +105,7 @@ pub(crate) fn set<'a>(
     requires { ⌜ (i < 1024) × (n ≤ 1024) × (text ≤ 16384) × (length (now list) ≤ 20480) × (1 ≤ k) × (k ≤ 64) × (65536 ≤ length (now w)) × (65536 ≤ length (now s)) ⌝ }
     ensures { λ r. ⌜ (RanKept k r) × (drop 32768 (now (s .exit)) ≡ drop 32768 (now (s .entry))) × (Sets (now (list .entry)) i (now (t .entry)) (now (u .entry)) n text k (now (s .entry)) (now (w .entry)) (now (w .exit)) r) ⌝ }
 {
-    let label = last_label(&s[PATH..], k);
+    let label = last_label(s, k);
     let rows = set_rows(list, i, t, s, label, k);
     bind_last(w, n, text, s, k, label, t, u, rows)
 }
@@ -141,7 +141,7 @@ pub(crate) fn link<'a>(
     requires { ⌜ (i < 1024) × (n ≤ 1024) × (text ≤ 16384) × (j ≤ 32) × (1 ≤ k) × (k ≤ 64) × (65536 ≤ length (now w)) × (65536 ≤ length (now s)) ⌝ }
     ensures { λ r. ⌜ (RanKept k r) × (ScopeKept (now (s .entry)) (now (s .exit))) × (Links (now (list .entry)) i (now (t .entry)) (now (u .entry)) n text j k (now (s .entry)) (now (w .entry)) (now (w .exit)) r) ⌝ }
 {
-    let label = last_label(&s[PATH..], k);
+    let label = last_label(s, k);
     let m = put_names(t, (value_at(list, i) % 65536) as usize, s, REFERENCE);
     if m < 1 {
         return Ran::Refused(11);

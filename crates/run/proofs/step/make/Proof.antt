@@ -4,7 +4,7 @@ use native.Mathlib.Omega.{arith}
 use mathlib.Core.Path.{_≡_, refl, sym, _∙_, ap, subst}
 use lib.ListN.{length, drop}
 use Rattle.run.proofs.Taking.{row-behind}
-use Rattle.run.proofs.Stepping.{cut, LabelRead, makes}
+use Rattle.run.proofs.Stepping.{makes}
 use borrow.Author.Needs.{needs}
 use Rattle.run.proofs.step.make.Statement.{statement}
 use Rattle.run.proofs.step.make.Tie as tie
@@ -14,15 +14,6 @@ use Rattle.rows.proofs.row.put_row.Reads as put-row-reads
 use Rattle.rows.proofs.text.byte_of.Reads as byte-of-reads
 use Rattle.run.proofs.step.bind_last.Reads as bind-last-reads
 use Rattle.run.proofs.step.last_label.Reads as last-label-reads
-
-sub-last-label : tie.Need-sub-last-label
-sub-last-label c = search needs
-
-part-last-label-start : tie.Need-part-last-label-start
-part-last-label-start c = search needs
-
-part-last-label-end : tie.Need-part-last-label-end
-part-last-label-end c = search needs
 
 last-label-requires : tie.Need-last-label-requires
 last-label-requires c κs = search needs
@@ -55,16 +46,13 @@ same-length-2 : tie.Need-same-length-2
 same-length-2 c = search needs
 
 returns : tie.Need-returns
-returns c = let a = c .before .before .before .before .before .before .before .before .before .before .before .before .before .before .before .before .before .args in let p = c .before .before .before .before .before .before .before .before .before .before .before .before .before .before .before .before .before .pre in let ed = ap (drop 32768) (c .before .before .before .before .before .before .before .put-row .ensures) ∙ row-behind (a .s .now) 0 0 (a .k) (c .before .before .before .before .before .before .before .before .before .before .last-label .result) (1 + c .before .before .before .before .before .before .before .before .before .byte-of .result) 0 (omega arith) (omega (arith, p .5)) in
-    (c .before .before .bind-last .ensures .0, ed, makes (a .t .now) (a .u .now) (a .w .now) (a .s .now) (c .before .before .before .before .before .before .before .put-row .last .0) (c .before .before .bind-last .last .0) (a .n) (a .text) (a .k) (c .before .before .before .before .before .before .before .before .before .before .last-label .result) (1 + c .before .before .before .before .before .before .before .before .before .byte-of .result) (c .before .before .bind-last .result) (p .5) (p .2) (p .3) (subst (λ z. LabelRead z (a .k) (c .before .before .before .before .before .before .before .before .before .before .last-label .result)) (cut (a .s .now) 32768) (c .before .before .before .before .before .before .before .before .before .before .last-label .ensures)) (ap (λ x. 1 + x) (c .before .before .before .before .before .before .before .before .before .byte-of .ensures .0)) (omega (arith, c .before .before .before .before .before .before .before .before .before .byte-of .ensures .1)) (c .before .before .before .before .before .before .before .put-row .ensures) ed (c .before .before .bind-last .ensures .1))
+returns c = let a = c .before .before .before .before .before .before .before .before .before .before .before .before .before .before .before .before .args in let p = c .before .before .before .before .before .before .before .before .before .before .before .before .before .before .before .before .pre in let ed = ap (drop 32768) (c .before .before .before .before .before .before .before .put-row .ensures) ∙ row-behind (a .s .now) 0 0 (a .k) (c .before .before .before .before .before .before .before .before .before .before .last-label .result) (1 + c .before .before .before .before .before .before .before .before .before .byte-of .result) 0 (omega arith) (omega (arith, p .5)) in
+    (c .before .before .bind-last .ensures .0, ed, makes (a .t .now) (a .u .now) (a .w .now) (a .s .now) (c .before .before .before .before .before .before .before .put-row .last .0) (c .before .before .bind-last .last .0) (a .n) (a .text) (a .k) (c .before .before .before .before .before .before .before .before .before .before .last-label .result) (1 + c .before .before .before .before .before .before .before .before .before .byte-of .result) (c .before .before .bind-last .result) (p .5) (p .2) (p .3) (c .before .before .before .before .before .before .before .before .before .before .last-label .ensures) (ap (λ x. 1 + x) (c .before .before .before .before .before .before .before .before .before .byte-of .ensures .0)) (omega (arith, c .before .before .before .before .before .before .before .before .before .byte-of .ensures .1)) (c .before .before .before .before .before .before .before .put-row .ensures) ed (c .before .before .bind-last .ensures .1))
 
 pub make-spec : {M : Type 1} → statement M
 make-spec =
     tie.close
     (tie.spec
-    sub-last-label
-    part-last-label-start
-    part-last-label-end
     last-label-requires
     byte-of-requires
     add-size
