@@ -1,14 +1,15 @@
 //! The command: the four operations over files and streams, and the generator of cases.
 
 use second::checks::{all_lines, all_packed, full_inputs, packed};
+use second::compare;
 use second::dump::dump;
 use second::generate::{cases, Kind};
+use second::json::json;
 use second::layout_table::encode_table;
 use second::operations::{main_table, resolve, run, translate};
 use second::refusal::Refusal;
 use second::store::Store;
-use second::trial;
-use second::wave::{wave, worst};
+use second::wave::{wave, wave_for_jsonnet, worst};
 use std::hint::black_box;
 use std::io::{self, Read, Write};
 use std::process::ExitCode;
@@ -19,11 +20,14 @@ const USAGE: &str = "usage:
   second main < table > main-table
   second resolve < description > main-table
   second generate translate|run|main|resolve SEED COUNT [MAXBYTES]
-  second trial input|output
+  second compare-cases SEED COUNT [MAXBYTES] > calls
+  second compare-sample input|output
   second dump < table > text
+  second json < table > text
   second wave VARIABLES PROTOTYPE SEED > description
+  second wave-for-jsonnet VARIABLES PROTOTYPE SEED > jsonnet
   second worst takes|siblings|paths|scopes > description
-  second rounds TRANSLATES RUNS < description
+  second rounds TRANSLATES RUNS MAINS RESOLVES < description
   second check-inputs > inputs
   second check-lines > lines
   second check-full 0|1|2 > input";
@@ -59,14 +63,19 @@ fn command(words: &[&str]) -> Option<Done> {
             .map(check_full),
         ["generate", wanted @ ..] => read_wanted(wanted).map(generate),
         ["dump"] => Some(over_input(dump)),
-        ["wave", variables, prototype, seed] => {
-            let (variables, prototype) = (variables.parse().ok()?, prototype.parse().ok()?);
-            wave(variables, prototype, seed.parse().ok()?).map(|text| write_out(text.as_bytes()))
-        }
+        ["json"] => Some(over_input(json)),
+        ["wave", sizes @ ..] => write_wave(wave, sizes),
+        ["wave-for-jsonnet", sizes @ ..] => write_wave(wave_for_jsonnet, sizes),
         ["worst", name] => worst(name).map(|text| write_out(text.as_bytes())),
-        ["rounds", translates, runs] => Some(rounds(translates.parse().ok()?, runs.parse().ok()?)),
-        ["trial", "input"] => Some(write_out(&trial::input(&trial::trials()))),
-        ["trial", "output"] => Some(write_out(trial::output(&trial::trials()).as_bytes())),
+        ["rounds", times @ ..] => {
+            let times: Option<Vec<usize>> = times.iter().map(|word| word.parse().ok()).collect();
+            Some(rounds(times?.try_into().ok()?))
+        }
+        ["compare-cases", wanted @ ..] => compare_cases(wanted),
+        ["compare-sample", "input"] => Some(write_out(&compare::stream(&compare::sample()))),
+        ["compare-sample", "output"] => {
+            Some(write_out(compare::lines(&compare::sample()).as_bytes()))
+        }
         _ => None,
     }
 }
@@ -89,18 +98,34 @@ fn read_input() -> Result<Vec<u8>, String> {
     Ok(input)
 }
 
+fn write_wave(make: fn(usize, usize, u64) -> Option<String>, sizes: &[&str]) -> Option<Done> {
+    let [variables, prototype, seed] = sizes else {
+        return None;
+    };
+    let (variables, prototype) = (variables.parse().ok()?, prototype.parse().ok()?);
+    make(variables, prototype, seed.parse().ok()?).map(|text| write_out(text.as_bytes()))
+}
+
 /// The same work so many times over, so that one time is the difference of two counts.
-fn rounds(translates: usize, runs: usize) -> Done {
+fn rounds([translates, runs, mains, resolves]: [usize; 4]) -> Done {
     let source = read_input()?;
     let table = encode_table(&Store::default());
-    for _ in 0..translates {
-        let answer = black_box(translate(black_box(&source)));
-        write_length(&answer)?;
-    }
+    repeat(translates, || translate(black_box(&source)))?;
     let list = translate(&source).unwrap_or_default();
-    for _ in 0..runs {
-        let answer = black_box(run(black_box(&list), &table));
-        write_length(&answer)?;
+    repeat(runs, || run(black_box(&list), &table))?;
+    // A run may take long, so the whole table is made only where it is used.
+    let whole = if mains > 0 {
+        run(&list, &table).unwrap_or_default()
+    } else {
+        Vec::new()
+    };
+    repeat(mains, || main_table(black_box(&whole)))?;
+    repeat(resolves, || resolve(black_box(&source)))
+}
+
+fn repeat(times: usize, operation: impl Fn() -> Result<Vec<u8>, Refusal>) -> Done {
+    for _ in 0..times {
+        write_length(&black_box(operation()))?;
     }
     Ok(())
 }
@@ -162,6 +187,38 @@ fn read_wanted(words: &[&str]) -> Option<Wanted> {
         count: count.parse().ok()?,
         cap,
     })
+}
+
+/// Nothing where the words are not two or three numbers.
+fn compare_cases(words: &[&str]) -> Option<Done> {
+    let [seed, count, rest @ ..] = words else {
+        return None;
+    };
+    let cap = match rest {
+        [] => usize::MAX,
+        [cap] => cap.parse().ok()?,
+        _ => return None,
+    };
+    let count: u32 = count.parse().ok()?;
+    let all = count.checked_mul(4)?;
+    Some(stream_calls(
+        all as usize,
+        compare::calls(seed.parse().ok()?, count as usize, cap),
+    ))
+}
+
+fn stream_calls(count: usize, calls: impl Iterator<Item = compare::Call>) -> Done {
+    let mut out = io::BufWriter::with_capacity(1 << 16, io::stdout().lock());
+    let mut write = |bytes: &[u8]| {
+        let written = out.write_all(bytes);
+        written.map_err(|error| format!("cannot write: {error}"))
+    };
+    write(&compare::stream_head(count))?;
+    for call in calls {
+        write(&call.bytes())?;
+    }
+    out.flush()
+        .map_err(|error| format!("cannot write: {error}"))
 }
 
 fn generate(wanted: Wanted) -> Done {

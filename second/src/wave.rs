@@ -45,9 +45,50 @@ struct Variable {
     text: usize,
 }
 
+/// A prototype, and what extends it: values for some of its attributes, and further ones.
+struct Wave {
+    prototype: Vec<Variable>,
+    changed: Vec<Variable>,
+    added: Vec<Variable>,
+}
+
 /// A prototype of so many attributes, and `sfConfig`, which extends it, overrides a fifth of it
 /// and adds variables up to so many in all. Nothing where that cannot be within the bounds.
 pub fn wave(variables: usize, prototype: usize, seed: u64) -> Option<String> {
+    let wave = drawn(variables, prototype, seed)?;
+    let lines = |variables: &[Variable]| -> String {
+        let each = variables.iter();
+        each.map(|Variable { name, value, .. }| format!("  {name} {value};\n"))
+            .collect()
+    };
+    Some(format!(
+        "// Wave 1: what every wave asks.\nwave1 extends {{\n{}}}\n\n\
+         // Wave 2: changed and new variables.\nsfConfig extends wave1, {{\n{}{}}}\n",
+        lines(&wave.prototype),
+        lines(&wave.changed),
+        lines(&wave.added)
+    ))
+}
+
+/// The same wave for jsonnet, whose value is what `sfConfig` holds.
+pub fn wave_for_jsonnet(variables: usize, prototype: usize, seed: u64) -> Option<String> {
+    let wave = drawn(variables, prototype, seed)?;
+    let lines = |variables: &[Variable]| -> String {
+        let value = |value: &str| if value == "NULL" { "null" } else { value }.to_string();
+        let each = variables.iter();
+        each.map(|variable| format!("  {}: {},\n", variable.name, value(&variable.value)))
+            .collect()
+    };
+    Some(format!(
+        "// Wave 1: what every wave asks.\nlocal wave1 = {{\n{}}};\n\n\
+         // Wave 2: changed and new variables.\nwave1 + {{\n{}{}}}\n",
+        lines(&wave.prototype),
+        lines(&wave.changed),
+        lines(&wave.added)
+    ))
+}
+
+fn drawn(variables: usize, prototype: usize, seed: u64) -> Option<Wave> {
     if prototype == 0 || variables < prototype {
         return None;
     }
@@ -63,29 +104,21 @@ pub fn wave(variables: usize, prototype: usize, seed: u64) -> Option<String> {
         named: 0,
         left: prototype + variables,
     };
-    let mut source = String::from("// Wave 1: what every wave asks.\nwave1 extends {\n");
-    let mut inherited = Vec::new();
-    for _ in 0..prototype {
-        // What the prototype holds is held twice.
-        let variable = maker.variable(&mut room, 2)?;
-        source.push_str(&variable.line());
-        inherited.push(variable.name);
-    }
-    source.push_str("}\n\n// Wave 2: changed and new variables.\nsfConfig extends wave1, {\n");
-    for name in inherited.iter().step_by(5).take(overridden) {
-        source.push_str(&format!("  {name} {};\n", maker.random.below(100)));
-    }
-    for _ in prototype..variables {
-        source.push_str(&maker.variable(&mut room, 1)?.line());
-    }
-    source.push_str("}\n");
-    Some(source)
-}
-
-impl Variable {
-    fn line(&self) -> String {
-        format!("  {} {};\n", self.name, self.value)
-    }
+    // What the prototype holds is held twice.
+    let held = (0..prototype).map(|_| maker.variable(&mut room, 2));
+    let held: Vec<Variable> = held.collect::<Option<_>>()?;
+    let changed = held.iter().step_by(5).take(overridden);
+    let changed = changed.map(|variable| {
+        let code = maker.random.below(100) as i64;
+        integer(variable.name.clone(), code)
+    });
+    let changed = changed.collect();
+    let added = (prototype..variables).map(|_| maker.variable(&mut room, 1));
+    Some(Wave {
+        added: added.collect::<Option<_>>()?,
+        prototype: held,
+        changed,
+    })
 }
 
 struct Maker {

@@ -76,7 +76,7 @@ fn a_refusal_is_one_line() {
 
 #[test]
 fn bad_words_give_the_usage() {
-    let rows: [&[&str]; 14] = [
+    let rows: [&[&str]; 19] = [
         &[],
         &["unknown"],
         &["translate", "more"],
@@ -85,12 +85,17 @@ fn bad_words_give_the_usage() {
         &["generate", "all", "1", "1"],
         &["generate", "run", "-1", "1"],
         &["generate", "run", "1", "1", ""],
-        &["trial"],
+        &["compare-cases", "1"],
+        &["compare-cases", "1", "-1"],
+        &["compare-cases", "1", "2000000000"],
+        &["compare-sample"],
         &["dump", "more"],
         &["wave", "900", "100"],
         &["wave", "2000", "100", "1"],
         &["worst", "unknown"],
-        &["rounds", "1", "-1"],
+        &["rounds", "1", "-1", "1", "1"],
+        &["rounds", "1", "1"],
+        &["wave-for-jsonnet", "2000", "100", "1"],
     ];
     for words in rows {
         let output = second(words, b"");
@@ -125,13 +130,20 @@ fn generate_prints_so_many_lines() {
 }
 
 #[test]
+fn calls_are_streamed() {
+    let output = second(&["compare-cases", "5", "3", "300"], b"").stdout;
+    let made: Vec<_> = second::compare::calls(5, 3, 300).collect();
+    assert_eq!(output, second::compare::stream(&made));
+}
+
+#[test]
 fn a_wave_is_resolved_and_shown() {
     let source = second(&["wave", "60", "10", "1"], b"").stdout;
     let table = second(&["resolve"], &source).stdout;
     let text = String::from_utf8(second(&["dump"], &table).stdout).unwrap();
     let attributes = text.lines().filter(|line| !line.starts_with(' '));
     assert_eq!(attributes.count(), 60);
-    let lengths = second(&["rounds", "2", "1"], &source).stdout;
-    assert_eq!(String::from_utf8(lengths).unwrap().lines().count(), 3);
+    let lengths = second(&["rounds", "2", "1", "3", "4"], &source).stdout;
+    assert_eq!(String::from_utf8(lengths).unwrap().lines().count(), 10);
     assert_eq!(second(&["dump"], b"").stdout, b"refused 10 at 0\n");
 }

@@ -4,10 +4,11 @@ mod common;
 
 use common::EMPTY_TABLE;
 use second::dump::dump;
+use second::json::json;
 use second::layout_table::decode_table;
 use second::operations::{resolve, run, translate};
 use second::store::{measure, Basic, Store, Value};
-use second::wave::{wave, worst};
+use second::wave::{wave, wave_for_jsonnet, worst};
 
 fn whole_of(source: &str) -> Store {
     let list = translate(source.as_bytes()).unwrap();
@@ -52,6 +53,51 @@ fn the_largest_wave_is_mixed_and_near_the_bounds() {
     assert!(count(&store, |basic| matches!(basic, Basic::Vector(_))) > 2);
     assert_eq!(wave(900, 100, 1), wave(900, 100, 1));
     assert_ne!(wave(900, 100, 1), wave(900, 100, 2));
+}
+
+#[test]
+fn the_same_wave_for_jsonnet() {
+    let (source, other) = (
+        wave(60, 10, 1).unwrap(),
+        wave_for_jsonnet(60, 10, 1).unwrap(),
+    );
+    assert_eq!(source.lines().count(), other.lines().count());
+    let pairs = source.lines().zip(other.lines());
+    let inner = pairs.filter(|(line, _)| line.starts_with("  "));
+    for (line, other) in inner {
+        let line = line.replacen(' ', "", 2).replacen(' ', ": ", 1);
+        let line = line.replace("NULL", "null").replace(';', ",");
+        assert_eq!(format!("  {line}"), other);
+    }
+    assert!(other.contains("local wave1 = {") && other.contains("wave1 + {"));
+    assert_eq!(wave_for_jsonnet(10, 0, 1), None);
+}
+
+#[test]
+fn json_is_as_jsonnet_writes_it() {
+    let source = br#"sfConfig extends { t true; n NULL; i -5; s "a\\"; v [1, [2], []]; c extends { b 1; a 2; } e extends {} }"#;
+    let text = json(&resolve(source).unwrap()).unwrap();
+    let wanted = r#"{
+   "c": {
+      "a": 2,
+      "b": 1
+   },
+   "e": { },
+   "i": -5,
+   "n": null,
+   "s": "a\\",
+   "t": true,
+   "v": [
+      1,
+      [
+         2
+      ],
+      [ ]
+   ]
+}
+"#;
+    assert_eq!(String::from_utf8(text).unwrap(), wanted);
+    assert_eq!(json(b"x").unwrap_err().number, 10);
 }
 
 #[test]

@@ -1,6 +1,6 @@
-// Translates a description so many times, then runs its list over the empty table so many times: one time is the difference of two counts.
-// Standard input holds three numbers of 32 bits, the lowest byte first, which are the translations, the runs and the description's length;
-// then the description. Each time is a line.
+// Does each operation on a description so many times: translate, run of its list over the empty table, main of the whole table, and resolve.
+// One time is the difference of two counts. Standard input holds five numbers of 32 bits, the lowest byte first, which are the times of each
+// and the description's length; then the description. Each time is a line.
 use libc::STDIN_FILENO;
 use libc::STDOUT_FILENO;
 
@@ -55,6 +55,13 @@ fn translations(source: &[u8], n: usize, out: &mut [u8], work: &mut [u8]) {
     }
 }
 
+fn tell(answer: run::Answer) {
+    match answer {
+        run::Answer::Done(k) => done(k),
+        run::Answer::Refused(number, place) => refused(number, place),
+    }
+}
+
 fn one_run<'a>(
     list: &'a [u8],
     table: &'a [u8],
@@ -62,10 +69,7 @@ fn one_run<'a>(
     work1: &mut [u8],
     work2: &mut [u8],
 ) {
-    match run::run(list, table, out, work1, work2) {
-        run::Answer::Done(k) => done(k),
-        run::Answer::Refused(number, place) => refused(number, place),
-    }
+    tell(run::run(list, table, out, work1, work2));
 }
 
 fn runs<'a>(
@@ -83,6 +87,46 @@ fn runs<'a>(
     }
 }
 
+fn one_main(table: &[u8], out: &mut [u8]) {
+    match main_table::main(table, out) {
+        main_table::Answer::Done(k) => done(k),
+        main_table::Answer::Refused(number, place) => refused(number, place),
+    }
+}
+
+fn mains(table: &[u8], n: usize, out: &mut [u8]) {
+    let mut i: usize = 0;
+    while i < n {
+        one_main(table, out);
+        i += 1;
+    }
+}
+
+fn one_resolve(
+    source: &[u8],
+    out: &mut [u8],
+    work1: &mut [u8],
+    work2: &mut [u8],
+    work3: &mut [u8],
+) {
+    tell(resolve::resolve(source, out, work1, work2, work3));
+}
+
+fn resolves(
+    source: &[u8],
+    n: usize,
+    out: &mut [u8],
+    work1: &mut [u8],
+    work2: &mut [u8],
+    work3: &mut [u8],
+) {
+    let mut i: usize = 0;
+    while i < n {
+        one_resolve(source, out, work1, work2, work3);
+        i += 1;
+    }
+}
+
 // A description that is refused has no list; its runs are refused with 9.
 fn list_of(source: &[u8], list: &mut [u8], work: &mut [u8]) -> usize {
     match translate::translate(source, list, work) {
@@ -91,25 +135,68 @@ fn list_of(source: &[u8], list: &mut [u8], work: &mut [u8]) -> usize {
     }
 }
 
+// The same for the whole table, which is made only where it is used, since a run may take long.
+fn whole_of<'a>(
+    list: &'a [u8],
+    table: &'a [u8],
+    n: usize,
+    out: &mut [u8],
+    work1: &mut [u8],
+    work2: &mut [u8],
+) -> usize {
+    if n == 0 {
+        return 0;
+    }
+    match run::run(list, table, out, work1, work2) {
+        run::Answer::Done(k) => k,
+        run::Answer::Refused(_, _) => 0,
+    }
+}
+
+fn over_list<'a>(
+    list: &'a [u8],
+    second: usize,
+    third: usize,
+    out: &mut [u8],
+    work1: &mut [u8],
+    work2: &mut [u8],
+) {
+    let table = EMPTY;
+    runs(list, &table, second, out, work1, work2);
+    let mut whole = [0u8; 32792];
+    let k = whole_of(list, &table, third, &mut whole, work1, work2);
+    mains(front(&whole, k), third, out);
+}
+
 fn main() {
     let mut source = [0u8; 32768];
     let first = field();
     let second = field();
+    let third = field();
+    let fourth = field();
     let n = field();
     bytes(&mut source, n);
     let mut list = [0u8; 53272];
     let mut out = [0u8; 32792];
     let mut work1 = [0u8; 65536];
     let mut work2 = [0u8; 65536];
+    let mut work3 = [0u8; 65536];
     translations(front(&source, n), first, &mut list, &mut work1);
     let k = list_of(front(&source, n), &mut list, &mut work1);
-    let table = EMPTY;
-    runs(
+    over_list(
         front(&list, k),
-        &table,
         second,
+        third,
         &mut out,
         &mut work1,
         &mut work2,
+    );
+    resolves(
+        front(&source, n),
+        fourth,
+        &mut out,
+        &mut work1,
+        &mut work2,
+        &mut work3,
     );
 }

@@ -6,6 +6,7 @@ use super::render;
 use super::stores::statements_of;
 use super::words;
 use crate::limits::*;
+use crate::operations::{resolve, translate};
 use crate::steps::Step;
 use crate::store::{Basic, Store, Value};
 
@@ -27,6 +28,54 @@ pub fn description(random: &mut Random) -> Vec<u8> {
         _ => full_source(random, past),
     };
     text.into_bytes()
+}
+
+const SIDES: [&str; 2] = ["at its limit", "just past it"];
+
+/// One description at each limit and one just past it, each with a name.
+pub fn descriptions_by_name() -> Vec<(String, Vec<u8>)> {
+    type Shape = fn(&mut Random, usize) -> String;
+    let shapes: [(&str, Shape); 10] = [
+        ("a name's length", long_name),
+        ("a reference's names", long_reference),
+        ("openings", deep_openings),
+        ("a table's depth", deep_table),
+        ("a token's length", long_token),
+        ("a list's steps", many_steps),
+        ("a list's text", |_, past| full_step_text(past)),
+        ("a table's text", |_, past| full_table_text(past)),
+        ("a table's nodes", |_, past| many_nodes(past)),
+        ("a source's length", full_source),
+    ];
+    let both = shapes.iter().flat_map(|(name, shape)| {
+        let text = move |seed, past| shape(&mut Random::new(seed), past).into_bytes();
+        // At its limit it is to be accepted, where any draw of this shape is.
+        let seed = (0..99).find(|seed| resolve(&text(*seed, 0)).is_ok());
+        let seed = seed.or_else(|| (0..99).find(|seed| translate(&text(*seed, 0)).is_ok()));
+        let seed = seed.unwrap_or(0);
+        let sides = SIDES.iter().enumerate();
+        sides.map(move |(past, side)| (format!("{name} {side}"), text(seed, past)))
+    });
+    both.collect()
+}
+
+/// The same for stores.
+pub fn stores_by_name() -> Vec<(String, Store)> {
+    let names = [
+        "components' depth",
+        "vectors' depth",
+        "nodes",
+        "text",
+        "a string's length",
+        "a reference's names",
+    ];
+    let both = names.iter().enumerate().flat_map(|(which, name)| {
+        SIDES.iter().enumerate().map(move |(past, side)| {
+            let value = limit_value(&mut Random::new(4), which, past);
+            (format!("{name} {side}"), under("sfConfig", value))
+        })
+    });
+    both.collect()
 }
 
 fn long_name(random: &mut Random, past: usize) -> String {
@@ -184,7 +233,13 @@ fn full_source(random: &mut Random, past: usize) -> String {
 /// A store at a limit of tables or one over it.
 pub fn store(random: &mut Random) -> Store {
     let past = random.below(2);
-    let value = match random.below(7) {
+    let which = random.below(7);
+    let value = limit_value(random, which, past);
+    under(*random.pick(&["sfConfig", "sfConfig", "sfconfig"]), value)
+}
+
+fn limit_value(random: &mut Random, which: usize, past: usize) -> Value {
+    match which {
         0 => nested_components(DEPTH - 2 + past),
         1 => Value::Basic(nested_vectors(DEPTH - 2 + past)),
         2 => Value::Basic(Basic::Vector(vec![Basic::Null; NODES - 2 + past])),
@@ -192,15 +247,16 @@ pub fn store(random: &mut Random) -> Store {
         4 => Value::Basic(Basic::String(vec![0; LONG_TEXT_BYTES + past])),
         5 => Value::Basic(Basic::Data(words::same_names("r", REFERENCE_NAMES + past))),
         _ => nested_components(random.between(1, DEPTH)),
-    };
+    }
+}
+
+/// A component of this name that holds the value as `a`.
+fn under(name: &str, value: Value) -> Store {
     let main = Store {
         attributes: vec![(b"a".to_vec(), value)],
     };
-    let name = random
-        .pick(&["sfConfig", "sfConfig", "sfconfig"])
-        .as_bytes();
     Store {
-        attributes: vec![(name.to_vec(), Value::Component(main))],
+        attributes: vec![(name.as_bytes().to_vec(), Value::Component(main))],
     }
 }
 

@@ -4,7 +4,7 @@ mod cases;
 mod damage_layout;
 mod damage_source;
 mod draft;
-mod extremes;
+pub(crate) mod extremes;
 mod grow;
 mod lists;
 pub(crate) mod random;
@@ -41,7 +41,7 @@ impl Kind {
     }
 
     /// A run has two inputs, every other kind one.
-    fn answer(self, inputs: &[Vec<u8>]) -> Result<Vec<u8>, Refusal> {
+    pub fn answer(self, inputs: &[Vec<u8>]) -> Result<Vec<u8>, Refusal> {
         match self {
             Kind::Translate => translate(&inputs[0]),
             Kind::Run => run(&inputs[0], &inputs[1]),

@@ -15,7 +15,7 @@ const KINDS: &str = r#"t true; f false; n NULL; least -9223372036854775808; most
     ref DATA a:b:c; one DATA x; v [1, -2.5, "s", DATA q:r, NULL, true, []]; w [[], [[]], [[1], [2, [3, "four"]]]];"#;
 
 /// Document 01's descriptions, by its numbers.
-const CHECKED: [(&str, &str); 11] = [
+pub const CHECKED: [(&str, &str); 11] = [
     ("2", "sfConfig extends { x 1; y 2; x 3; }"),
     ("3", "sfConfig extends { a extends sfConfig; }"),
     ("4", "a extends { x 1; } sfConfig extends { a extends a, { y 2; } }"),

@@ -1,24 +1,23 @@
--- `run_try::main` ends: the measure is the cases left. Assumes nothing.
+-- `rounds::mains` ends: the measure is the times left. Assumes nothing.
+use mathlib.Core.Path.{_≡_}
 use Prim.Native.Nat.{_≤_, _-_}
+use lib.ListN.{length}
 use native.Mathlib.Omega.{arith}
 use borrow.Author.Needs.{needs}
-use Rattle.run_try.proofs.main.Statement.{statement}
-use Rattle.run_try.proofs.main.Tie as tie
+use Rattle.rounds.proofs.mains.Statement.{statement}
+use Rattle.rounds.proofs.mains.Tie as tie
 
 abbrev Inv-loop : tie.InvT-loop
-Inv-loop n i₀ i = i ≤ n
+Inv-loop table n out₀ i₀ out i = (i ≤ n) × (length out ≡ length out₀)
 
 abbrev μ-loop : tie.MeasureT-loop
-μ-loop n i₀ i = n - i
-
-field-requires : tie.Need-field-requires Inv-loop μ-loop
-field-requires c κs = search needs
+μ-loop table n out₀ i₀ out i = n - i
 
 loop-holds : tie.Need-loop-holds Inv-loop μ-loop
 loop-holds c = search needs
 
-case-requires : tie.Need-case-requires Inv-loop μ-loop
-case-requires c κs = search needs
+one-main-requires : tie.Need-one-main-requires Inv-loop μ-loop
+one-main-requires c κs = search needs
 
 add-i : tie.Need-add-i Inv-loop μ-loop
 add-i c = search needs
@@ -29,19 +28,22 @@ loop-less c = search needs
 loop-again : tie.Need-loop-again Inv-loop μ-loop
 loop-again c = search needs
 
+same-length : tie.Need-same-length Inv-loop μ-loop
+same-length c = search needs
+
 returns : tie.Need-returns Inv-loop μ-loop
 returns c = search needs
 
-pub main-spec : {M : Type 1} → statement M
-main-spec =
+pub mains-spec : {M : Type 1} → statement M
+mains-spec =
     tie.close
     (tie.spec
     Inv-loop
     μ-loop
-    field-requires
     loop-holds
-    case-requires
+    one-main-requires
     add-i
     loop-less
     loop-again
+    same-length
     returns)
