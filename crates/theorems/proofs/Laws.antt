@@ -3,6 +3,5 @@ pub mod Gives
 pub mod Found
 pub mod Rescan
 pub mod Enough
-pub mod EnoughScan
 pub mod DecodeFree
 pub mod DecodeAt
