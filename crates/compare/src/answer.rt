@@ -45,7 +45,7 @@ fn of_main(a: main_table::Answer) -> Answer {
     }
 }
 
-pub fn of<'a>(
+pub(crate) fn of<'a>(
     operation: usize,
     first: &'a [u8],
     second: &'a [u8],

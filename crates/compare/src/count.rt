@@ -49,7 +49,7 @@ fn known(number: usize) -> usize {
 }
 
 // Answers how many there are now.
-pub fn note(counts: &mut [u64; 128], operation: usize, a: Answer, same: bool) -> u64 {
+pub(crate) fn note(counts: &mut [u64; 128], operation: usize, a: Answer, same: bool) -> u64 {
     add(counts, operation, known(a.number));
     add(counts, operation, 30);
     if same {
@@ -88,7 +88,7 @@ fn tell_operation(counts: &[u64; 128], operation: usize) {
     say(b"\n");
 }
 
-pub fn tell(counts: &[u64; 128]) {
+pub(crate) fn tell(counts: &[u64; 128]) {
     tell_operation(counts, 0);
     tell_operation(counts, 1);
     tell_operation(counts, 2);

@@ -5,17 +5,17 @@ const FENCE: usize = 64;
 // Room for the longest slice that is lent.
 pub type Array = [u8; 65664];
 
-pub fn fill(s: &mut Array, within: &[u8]) {
+pub(crate) fn fill(s: &mut Array, within: &[u8]) {
     memory::copy(s, FENCE, within);
 }
 
 // An input of n bytes, or none where it does not fit.
-pub fn inside(s: &Array, n: usize) -> &[u8] {
+pub(crate) fn inside(s: &Array, n: usize) -> &[u8] {
     memory::part(s, FENCE, n)
 }
 
 // A slice of n bytes to be written, or all where it does not fit.
-pub fn lent(s: &mut [u8], n: usize) -> &mut [u8] {
+pub(crate) fn lent(s: &mut [u8], n: usize) -> &mut [u8] {
     let size = s.len();
     if size < FENCE {
         return s;
@@ -61,7 +61,7 @@ fn behind(s: &[u8], at: usize) -> &[u8] {
 }
 
 // Whether the array holds x but for what lies inside.
-pub fn holds(s: &Array, x: u8, within: &[u8]) -> bool {
+pub(crate) fn holds(s: &Array, x: u8, within: &[u8]) -> bool {
     let n = within.len();
     if !all(memory::part(s, 0, FENCE), x) {
         return false;

@@ -21,7 +21,7 @@ pub struct Head {
     pub at: usize,
 }
 
-pub fn number() -> usize {
+pub(crate) fn number() -> usize {
     let mut b = [0u8; 4];
     io::read_full(STDIN_FILENO, &mut b);
     memory::get32(&b, 0) as usize
@@ -39,7 +39,7 @@ fn operation(b: &[u8; 48], n: usize) -> usize {
     field(b, 0)
 }
 
-pub fn read() -> Head {
+pub(crate) fn read() -> Head {
     let mut b = [0u8; 48];
     let n = io::read_full(STDIN_FILENO, &mut b);
     Head {
@@ -59,7 +59,7 @@ pub fn read() -> Head {
 }
 
 // What does not fit counts as nothing, so that the case is missing in the end.
-pub fn read_body(body: &mut [u8], n: usize) -> bool {
+pub(crate) fn read_body(body: &mut [u8], n: usize) -> bool {
     if n > body.len() {
         return false;
     }
@@ -81,23 +81,23 @@ fn inputs(h: Head) -> usize {
     plus(h.name, plus(h.first, h.second))
 }
 
-pub fn size(h: Head) -> usize {
+pub(crate) fn size(h: Head) -> usize {
     plus(inputs(h), length(h))
 }
 
-pub fn name(h: Head, body: &[u8]) -> &[u8] {
+pub(crate) fn name(h: Head, body: &[u8]) -> &[u8] {
     memory::part(body, 0, h.name)
 }
 
-pub fn first(h: Head, body: &[u8]) -> &[u8] {
+pub(crate) fn first(h: Head, body: &[u8]) -> &[u8] {
     memory::part(body, h.name, h.first)
 }
 
-pub fn second(h: Head, body: &[u8]) -> &[u8] {
+pub(crate) fn second(h: Head, body: &[u8]) -> &[u8] {
     memory::part(body, plus(h.name, h.first), h.second)
 }
 
-pub fn expected(h: Head, body: &[u8]) -> &[u8] {
+pub(crate) fn expected(h: Head, body: &[u8]) -> &[u8] {
     memory::part(body, inputs(h), length(h))
 }
 
@@ -115,6 +115,6 @@ fn works(operation: usize) -> usize {
 }
 
 // Whether the operation clears its k-th work slice: by 8 it touches none.
-pub fn clears(h: Head, k: usize) -> bool {
+pub(crate) fn clears(h: Head, k: usize) -> bool {
     h.number != 8 && k <= works(h.operation)
 }

@@ -14,15 +14,15 @@ pub struct Seen {
     pub work3: bool,
 }
 
-pub fn say(words: &[u8]) {
+pub(crate) fn say(words: &[u8]) {
     io::write_all(STDOUT_FILENO, words);
 }
 
-pub fn decimal(n: u64) {
+pub(crate) fn decimal(n: u64) {
     io::print_decimal(STDOUT_FILENO, n);
 }
 
-pub fn operation_name(operation: usize) {
+pub(crate) fn operation_name(operation: usize) {
     if operation == 0 {
         say(b"translate");
         return;
@@ -46,7 +46,7 @@ fn same_work(seen: Seen) -> bool {
     seen.work1 && seen.work2 && seen.work3
 }
 
-pub fn is_same(h: Head, seen: Seen) -> bool {
+pub(crate) fn is_same(h: Head, seen: Seen) -> bool {
     same_answer(h, seen.answer) && seen.first && seen.second && seen.out && same_work(seen)
 }
 
@@ -62,7 +62,7 @@ fn answer(number: usize, value: usize) {
     decimal(value as u64);
 }
 
-pub fn named(h: Head, seen: Seen, name: &[u8]) {
+pub(crate) fn named(h: Head, seen: Seen, name: &[u8]) {
     operation_name(h.operation);
     say(b" ");
     say(name);
@@ -79,7 +79,7 @@ fn unless(right: bool, words: &[u8]) {
 }
 
 // With the case's number among those of its operation, and what is not as it should be.
-pub fn differing(h: Head, seen: Seen, name: &[u8], n: u64) {
+pub(crate) fn differing(h: Head, seen: Seen, name: &[u8], n: u64) {
     operation_name(h.operation);
     say(b" ");
     decimal(n);

@@ -16,13 +16,13 @@ fn spoil(s: &mut Array, h: Head, array: usize) {
 }
 
 // An input, or the output: within, and around it the array's own byte.
-pub fn bytes(s: &mut Array, h: Head, array: usize, within: &[u8]) -> bool {
+pub(crate) fn bytes(s: &mut Array, h: Head, array: usize, within: &[u8]) -> bool {
     spoil(s, h, array);
     fence::holds(s, 165, within)
 }
 
 // The k-th work slice: as many zeros as are asked for, or all as it was.
-pub fn work(s: &mut Array, h: Head, k: usize, x: u8) -> bool {
+pub(crate) fn work(s: &mut Array, h: Head, k: usize, x: u8) -> bool {
     spoil(s, h, k % 4 + 3);
     let zeros = [0u8; WORK];
     if clears(h, k) {

@@ -29,12 +29,12 @@ fn fill(fd: i32, buf: &mut [u8]) -> Read {
 }
 
 // Says what could not be read, with the system's reason for it.
-pub fn complain(what: &[u8]) {
+pub(crate) fn complain(what: &[u8]) {
     io::write_all(libc::STDERR_FILENO, b"saftmagnet: ");
     os::fail(what);
 }
 
-pub fn read_input(buf: &mut [u8]) -> Read {
+pub(crate) fn read_input(buf: &mut [u8]) -> Read {
     let fd = libc::STDIN_FILENO;
     match fill(fd, buf) {
         Read::Bytes(n) => Read::Bytes(n),
@@ -66,7 +66,7 @@ fn read_opened(fd: i32, path: &[u8], buf: &mut [u8]) -> Read {
 }
 
 // The file that the program's argument i names.
-pub fn read_file(i: usize, buf: &mut [u8]) -> Read {
+pub(crate) fn read_file(i: usize, buf: &mut [u8]) -> Read {
     let mut path = io::buffer();
     let n = os::arg(i, &mut path);
     if os::errno() != 0 {

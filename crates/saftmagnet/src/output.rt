@@ -7,7 +7,7 @@ ghost use lib.ListN.{length};
 ghost use Rattle.memory.specs.Memory.{stored};
 ghost use Rattle.saftmagnet.specs.Line.{refusal};
 
-pub fn put(bytes: &[u8]) {
+pub(crate) fn put(bytes: &[u8]) {
     if !io::write_all(STDOUT_FILENO, bytes) {
         crate::input::complain(b"standard output");
     }
@@ -35,7 +35,7 @@ fn refusal_line(line: &mut [u8], number: &[u8], place: &[u8]) -> usize
     add(line, d, b"\n")
 }
 
-pub fn refused(number: usize, place: usize) {
+pub(crate) fn refused(number: usize, place: usize) {
     let mut line = [0u8; 64];
     let mut digits1 = [0u8; 20];
     let mut digits2 = [0u8; 20];
