@@ -1,5 +1,7 @@
 //! What a refusal number means: document 01's words, and what may help a person.
 
+use second::scan::RESERVED;
+
 /// Document 01's words for a number.
 pub fn meaning(number: u32) -> &'static str {
     match number {
@@ -75,23 +77,6 @@ fn no_token(rest: &[u8]) -> &'static str {
     }
 }
 
-const RESERVED: [&str; 14] = [
-    "extends",
-    "DATA",
-    "NULL",
-    "true",
-    "false",
-    "ROOT",
-    "PARENT",
-    "THIS",
-    "ATTRIB",
-    "LAZY",
-    "HOST",
-    "PROCESS",
-    "PROPERTY",
-    "IPROPERTY",
-];
-
 fn misplaced(source: &[u8], at: usize) -> String {
     let rest = source.get(at..).unwrap_or_default();
     let before = source.get(..at).unwrap_or(source).trim_ascii_end();
@@ -99,7 +84,7 @@ fn misplaced(source: &[u8], at: usize) -> String {
     if rest.is_empty() {
         return "something is missing at the end: a value, a `;` or a `}`.".to_string();
     }
-    if RESERVED.contains(&name.as_str()) {
+    if RESERVED.contains(&name.as_bytes()) {
         return format!("`{name}` is a reserved word, and may not stand here; before it a name, a value or a `;` may be missing.");
     }
     if rest.starts_with(b";") && before.ends_with(b"}") {

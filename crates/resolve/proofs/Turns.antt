@@ -38,7 +38,7 @@ lent-main : (list start : List ℕ) (o w₁ w₂ : ℕ) → 32792 ≤ o → 6553
 unfolding R.run-main-op R.main-of demand _>>=_
 lent-main list start o w₁ w₂ l l₁ l₂ = rw (le-leb 32792 o l, le-leb 65536 w₁ l₁, le-leb 65536 w₂ l₂) (sym (rest-is list start _))
 
-lent-resolve : (source : List ℕ) (o w₁ w₂ w₃ : ℕ) → 32792 ≤ o → 65536 ≤ w₁ → 65536 ≤ w₂ → 65536 ≤ w₃ → resolve-op source o w₁ w₂ w₃ ≡ resolve source
+pub lent-resolve : (source : List ℕ) (o w₁ w₂ w₃ : ℕ) → 32792 ≤ o → 65536 ≤ w₁ → 65536 ≤ w₂ → 65536 ≤ w₃ → resolve-op source o w₁ w₂ w₃ ≡ resolve source
 unfolding resolve-op demand _>>=_
 lent-resolve source o w₁ w₂ w₃ l l₁ l₂ l₃ = rw (le-leb 32792 o l, le-leb 65536 w₁ l₁, le-leb 65536 w₂ l₂, le-leb 65536 w₃ l₃)
 
