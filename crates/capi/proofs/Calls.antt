@@ -1,14 +1,15 @@
 -- From an operation's outcome to the one number that C is told. Assumes nothing.
 use Prim.Native.Nat.{ℕ, _+_, _*_, _/_, _%_, _≤_, _<_}
 use native.Mathlib.Omega.{arith}
-use mathlib.Core.Path.{_≡_, refl, sym, ap, _∙_}
+use mathlib.Core.Path.{_≡_, refl, sym, ap, subst, _∙_}
 use mathlib.Core.List.{List}
+use mathlib.Core.Logic.{⊎-elim}
 use lib.ListN.{length}
 use Rattle.paper.specs.Answer.{Answer, ok, refused}
-use Rattle.paper.specs.Operations.{Outcome, told, translate-op, run-op, main-op, resolve-op, translates, runs, takes-main, resolves}
+use Rattle.paper.specs.Limits.{most-source}
+use Rattle.paper.specs.Operations.{translates, runs, takes-main, resolves}
+use Rattle.paper.specs.Lent.{Outcome, told, Lent}
 use Rattle.theorems.proofs.Demands.{demands}
-use Rattle.theorems.proofs.Demands.Answers.{MainNumber, short, no-table, no-main}
-use Rattle.theorems.proofs.Legal.Bounds.{Main, absent, no-component}
 use Rattle.capi.specs.Called.{Called, coded, in-c}
 
 -- ---- the two cases of an answer
@@ -37,33 +38,36 @@ unfolding told
 untold (ok b) n p e = absurd (let z : _≡_ {A = ℕ} 0 1 = cc in omega arith)
 untold (refused k q) n p e = cc
 
-small : (a : Answer (List ℕ)) → ((n p : ℕ) → a ≡ refused n p → p ≤ 32768) → ((n p : ℕ) → a ≡ refused n p → n ≤ 20) → (n p : ℕ) → told a ≡ refused n p → (n ≤ 20) × (p ≤ 32768)
-small a h f n p e = let r = untold a n p e in (f n p r, h n p r)
-
-main-most : {n : ℕ} → MainNumber n → n ≤ 20
-main-most short = omega arith
-main-most no-table = omega arith
-main-most (no-main absent) = omega arith
-main-most (no-main no-component) = omega arith
+-- 8 is small, and so is whatever else is allowed
+small : {Long : Type 0} {Allowed : Answer (List ℕ) → Type 0} → ((n p : ℕ) → Allowed (refused n p) → (n ≤ 20) × (p ≤ most-source))
+    → {a : Answer (List ℕ)} → Lent Long Allowed a → (n p : ℕ) → told a ≡ refused n p → (n ≤ 20) × (p ≤ most-source)
+unfolding told
+small f (Lent.too-short k) n p e = let i : n ≡ 8 = cc in let j : p ≡ 0 = cc in (omega arith, omega arith)
+small {Allowed = Allowed} f (Lent.long {a} l h) n p e = f n p (subst Allowed (untold a n p e) h)
 
 pub translates-small : (source o w : List ℕ) → Small (translates source o w)
 unfolding translates
 translates-small source o w =
-    small (translate-op source (length o) (length w)) (demands .translate-places source (length o) (length w)) (λ n p e. omega (arith, demands .translate-numbers source (length o) (length w) n p e .1))
+    small (λ n p h. (omega (arith, demands .translate-numbers source n p h .1), demands .translate-places source n p h .1))
+    (demands .translate-exactly source o w _ .0 refl)
 
 pub runs-small : (list start o w₁ w₂ : List ℕ) → Small (runs list start o w₁ w₂)
 unfolding runs
 runs-small list start o w₁ w₂ =
-    small (run-op list start (length o) (length w₁) (length w₂)) (demands .run-places list start (length o) (length w₁) (length w₂)) (λ n p e. omega (arith, demands .run-numbers list start (length o) (length w₁) (length w₂) n p e .1))
+    small (λ n p h. (omega (arith, demands .run-numbers list start n p h .1), omega (arith, demands .run-places list start n p h)))
+    (demands .run-exactly list start o w₁ w₂ _ .0 refl)
 
 pub main-small : (whole o : List ℕ) → Small (takes-main whole o)
 unfolding takes-main
-main-small whole o = small (main-op whole (length o)) (demands .main-places whole (length o)) (λ n p e. main-most (demands .main-numbers whole (length o) n p e))
+main-small whole o =
+    small (λ n p h. (⊎-elim (λ e. omega arith) (⊎-elim (λ e. omega arith) (λ e. omega arith)) (demands .main-numbers whole n p h), omega (arith, demands .main-places whole n p h)))
+    (demands .main-exactly whole o _ .0 refl)
 
 pub resolves-small : (source o w₁ w₂ w₃ : List ℕ) → Small (resolves source o w₁ w₂ w₃)
 unfolding resolves
 resolves-small source o w₁ w₂ w₃ =
-    small (resolve-op source (length o) (length w₁) (length w₂) (length w₃)) (demands .resolve-places source (length o) (length w₁) (length w₂) (length w₃)) (λ n p e. demands .resolve-numbers source (length o) (length w₁) (length w₂) (length w₃) n p e .1)
+    small (λ n p h. (⊎-elim (λ q. omega (arith, q .1)) (λ q. q .1) (demands .resolve-numbers source n p h), demands .resolve-places source n p h .1))
+    (demands .resolve-exactly source o w₁ w₂ w₃ _ .0 refl)
 
 -- ---- what C can take apart again
 

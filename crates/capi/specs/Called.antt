@@ -2,7 +2,7 @@
 use Prim.Native.Nat.{ℕ, _+_, _*_}
 use mathlib.Core.List.{List}
 use Rattle.paper.specs.Answer.{Answer, ok, refused}
-use Rattle.paper.specs.Operations.{Outcome}
+use Rattle.paper.specs.Lent.{Outcome}
 
 -- how many bytes were written, or a refusal as number × 2³² + place
 unfoldable pub coded : Answer ℕ → ℕ

@@ -1,2 +1,2 @@
-pub mod Second
-pub mod Third
+pub mod Calls
+pub mod Evaluation

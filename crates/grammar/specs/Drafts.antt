@@ -9,9 +9,9 @@ use lib.Dec.{leb, ltb}
 use Rattle.paper.specs.Bytes.{if_then_else_}
 use Rattle.paper.specs.Answer.{Answer, ok, refused, _>>=_, demand}
 use Rattle.paper.specs.Syntax.{Basic, boolean, null, integer, decimal, string, reference, vector}
-use Rattle.paper.specs.Tokens.{Token, name, literal, mark, end, is-name, is-word, is-mark, is-end, Here}
+use Rattle.paper.specs.Tokens.{Token, name, literal, mark, end, is-name, is-mark, Here}
 use Rattle.paper.specs.Scanner.{next}
-use Rattle.paper.specs.Reader.{expect, expect-word, path}
+use Rattle.paper.specs.Reader.{expect, expect-word, path, is-word, is-end}
 use Rattle.paper.specs.Layout.{Row, number, complement, path-text}
 use Rattle.paper.specs.StepLayout.{step-row}
 

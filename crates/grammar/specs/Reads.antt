@@ -6,7 +6,7 @@ use lib.Dec.{ltb}
 use lib.ListN.{length}
 use Rattle.paper.specs.Bytes.{if_then_else_}
 use Rattle.paper.specs.Answer.{Answer, ok, refused}
-use Rattle.paper.specs.Operations.{wiped}
+use Rattle.paper.specs.Lent.{wiped}
 use Rattle.grammar.specs.Drafts.{Draft, drafts, text-size}
 use Rattle.grammar.specs.Puts.{puts, Frame}
 use Rattle.grammar.specs.declared.answer.Read.{Read}

@@ -10,9 +10,9 @@ use lib.Dec.{eqb}
 use Rattle.paper.specs.Bytes.{bytes, if_then_else_}
 use Rattle.paper.specs.Answer.{Answer, ok, refused, _>>=_, demand}
 use Rattle.paper.specs.Syntax.{integer, decimal, string}
-use Rattle.paper.specs.Tokens.{Token, name, literal, mark, end, is-name, is-word, is-mark, is-end, Here}
+use Rattle.paper.specs.Tokens.{Token, name, literal, mark, end, is-name, is-mark, Here}
 use Rattle.paper.specs.Scanner.{next}
-use Rattle.paper.specs.Reader.{expect}
+use Rattle.paper.specs.Reader.{expect, is-word, is-end}
 use Rattle.paper.specs.Layout.{complement}
 use Rattle.tokens.specs.declared.Kind.{Kind}
 use Rattle.tokens.specs.declared.Kind.the-variants as kinds

@@ -5,8 +5,8 @@ use mathlib.Core.Bool.{true, false}
 use mathlib.Core.List.{List, [], _∷_, _++_}
 use lib.ListN.{length}
 use Rattle.paper.specs.Answer.{Answer, ok, refused, _>>=_}
-use Rattle.paper.specs.Tokens.{Token, Here, is-name, is-word}
-use Rattle.paper.specs.Reader.{expect}
+use Rattle.paper.specs.Tokens.{Token, Here, is-name}
+use Rattle.paper.specs.Reader.{expect, is-word}
 use Rattle.grammar.specs.Drafts.{Draft, set-draft, make-draft, bare-draft, link-draft, draft-value, draft-prototypes}
 use Rattle.grammar.specs.Places.{here, Stood}
 use Rattle.grammar.specs.Basics.{laidOf, laid-size, rest-laid}

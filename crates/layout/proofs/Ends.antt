@@ -6,7 +6,7 @@ use mathlib.Core.List.{List}
 use mathlib.Core.Option.{none, some}
 use lib.ListN.{length, drop, drop-of-length-le}
 use lib.Seq.{drop-cons}
-use Rattle.paper.specs.Bytes.{empty}
+use Rattle.paper.specs.Scanner.{empty}
 use Rattle.paper.specs.Maybe.{_>>=_, require}
 use Rattle.paper.specs.Decoder.{ended}
 use Rattle.theorems.proofs.Laws.DecodeAt.{cursor}

@@ -18,7 +18,8 @@ use Rattle.paper.specs.Store.{Store, ∅, entry, Value, component, lookup, find
 use Rattle.paper.specs.Store as S
 use Rattle.paper.specs.Layout.{Row, rows, deepest, texts, records, table}
 use Rattle.paper.specs.Meaning.{main}
-use Rattle.paper.specs.Operations.{Outcome, or-refused, told, written, main-op, takes-main}
+use Rattle.paper.specs.Operations.{or-refused, main-op, takes-main}
+use Rattle.paper.specs.Lent.{Outcome, told, written}
 use Rattle.paper.specs.Decoder.{Cursor}
 use Rattle.paper.specs.TableDecoder.{in-table, absent, table-of}
 use Rattle.forms.specs.declared.form.Form.the-variants.{Table}

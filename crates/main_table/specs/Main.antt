@@ -9,7 +9,8 @@ use Rattle.paper.specs.Answer as Paper
 use Rattle.paper.specs.Store.{Store}
 use Rattle.paper.specs.Layout.{table}
 use Rattle.paper.specs.Meaning.{main}
-use Rattle.paper.specs.Operations.{Outcome, or-refused, told, written}
+use Rattle.paper.specs.Operations.{or-refused}
+use Rattle.paper.specs.Lent.{Outcome, told, written}
 use Rattle.main_table.specs.declared.operation.Answer.{Answer}
 use Rattle.main_table.specs.declared.operation.Answer.the-variants.{Done, Refused}
 use Rattle.table.specs.Whole.{store-in}

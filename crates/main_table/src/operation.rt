@@ -12,7 +12,8 @@ use table::is_table;
 ghost use mathlib.Core.Path.{_≡_};
 ghost use Prim.Native.Nat.{_≤_};
 ghost use lib.ListN.{length};
-ghost use Rattle.paper.specs.Operations.{Outcome, takes-main};
+ghost use Rattle.paper.specs.Operations.{takes-main};
+ghost use Rattle.paper.specs.Lent.{Outcome};
 ghost use Rattle.table.specs.Whole.{store-in};
 ghost use Rattle.main_table.specs.Main.{outcome, main-of, main-outcome, Tabled};
 

@@ -9,7 +9,7 @@ use lib.ListN.{length, take, drop, getD, set, length-drop}
 use lib.Seq.{sets, drop-cons, take-suc, getD-drop, drop-set-lt, drop-set-add, take-set-le, set-comm, length-take-le}
 use lib.Dec.{lit<}
 use Rattle.paper.specs.Layout.{little}
-use Rattle.paper.specs.Operations.{zeros}
+use Rattle.paper.specs.Lent.{zeros}
 use Rattle.theorems.proofs.Laws.DecodeAt.{word}
 
 -- the first of what is left goes to its place

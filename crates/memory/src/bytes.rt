@@ -3,7 +3,7 @@ use crate::place::fits;
 ghost use mathlib.Core.Path.{_≡_};
 ghost use Prim.Native.Nat.{_+_, _≤_};
 ghost use lib.ListN.{length, take, drop};
-ghost use Rattle.paper.specs.Operations.{zeros};
+ghost use Rattle.paper.specs.Lent.{zeros};
 ghost use Rattle.memory.specs.Memory.{part-at, stored, slid};
 
 // As many bytes as an operation asks of a work slice.

@@ -16,10 +16,6 @@ bytes (c ∷ s) = code c ∷ᴸ bytes s
 abbrev pub at : List ℕ → ℕ → ℕ
 at s i = getD s i 256
 
-abbrev pub empty : List ℕ → Bool
-empty []ᴸ = true
-empty (b ∷ᴸ s) = false
-
 -- the byte b is the character c; is one of the text's; lies from c to d
 abbrev pub is : Char → ℕ → Bool
 is c b = eqb (code c) b

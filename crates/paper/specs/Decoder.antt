@@ -10,11 +10,11 @@ use mathlib.Core.Option.{Option, none, some}
 use lib.ListN.{length, take, drop}
 use lib.IntN.{ℤ, pos, negsuc}
 use lib.Dec.{leb, ltb, eqb}
-use Rattle.paper.specs.Bytes.{empty, if_then_else_}
+use Rattle.paper.specs.Bytes.{if_then_else_}
 use Rattle.paper.specs.Maybe.{_>>=_, require}
 use Rattle.paper.specs.Syntax.{Name, Path, Basic, boolean, null, integer, decimal, string, reference, vector, Basics, εⱽ, _∷ⱽ_}
 use Rattle.paper.specs.Tokens.{reserved, member, name, literal, mark, end}
-use Rattle.paper.specs.Scanner.{Scanned, token, fault, scan}
+use Rattle.paper.specs.Scanner.{Scanned, token, fault, scan, empty}
 
 -- ---- numbers and text
 

@@ -7,6 +7,7 @@ use mathlib.Core.Bool.{Bool, true, false, _||_}
 use mathlib.Core.List.{List, [], _∷_, _++_}
 use mathlib.Core.Option.{Option, none, some}
 use lib.ListN.{length}
+use Rattle.paper.specs.Limits.{most-source, most-open, most-names}
 use Rattle.paper.specs.Syntax.{Path, Block}
 use Rattle.paper.specs.Tokens.{Token, name, mark, end, is-name, is-mark, Here}
 use Rattle.paper.specs.Written.{Next, NoNext}
@@ -43,9 +44,9 @@ Fits (t ∷ ts) (x ∷ xs) = (t .0 ≡ x .0) × Sits (x .1) (t .1) × Fits ts xs
 
 -- the source describes b: its tokens, up to its end, are b's, where b says that they stand, and the limits are kept
 pub record Describes (source : List ℕ) (b : Block) : Type 0 where
-  pub size : length source ≤ 32768
+  pub size : length source ≤ most-source
   pub legal : Legal b
-  pub nested : openings b ≤ 32
+  pub nested : openings b ≤ most-open
   pub list : List (Token × ℕ)
   pub mid : Here
   pub h : Here
@@ -94,8 +95,8 @@ pub record Joined (n : ℕ) (ts : List Token) : Type 0 where
 -- after the tokens before it, the token t is refused: "token, or the end, cannot continue", 3; "a 33rd opening", 5; "33rd name of a reference", 6
 pub data Fault (before : List Token) (t : Token) : ℕ → Type 0 where
   cannot : (Begins (before ++ (t ∷ [])) → ⊥) → Fault before t 3
-  opening : Begins (before ++ (t ∷ [])) → opens t ≡ true → Open 32 before → Fault before t 5
-  another-name : Begins (before ++ (t ∷ [])) → is-name t ≡ true → Joined 32 before → Fault before t 6
+  opening : Begins (before ++ (t ∷ [])) → opens t ≡ true → Open most-open before → Fault before t 5
+  another-name : Begins (before ++ (t ∷ [])) → is-name t ≡ true → Joined most-names before → Fault before t 6
 
 -- none of the tokens is refused
 abbrev pub Fine : List Token → Type 0
@@ -116,5 +117,5 @@ pub record First (source : List ℕ) (n p : ℕ) : Type 0 where
 
 -- "description over 32,768 bytes", 1; else "the leftmost of 2 to 6"
 pub data Refused (source : List ℕ) : ℕ → ℕ → Type 0 where
-  too-long : 32768 < length source → Refused source 1 0
-  leftmost : {n p : ℕ} → length source ≤ 32768 → First source n p → Refused source n p
+  too-long : most-source < length source → Refused source 1 0
+  leftmost : {n p : ℕ} → length source ≤ most-source → First source n p → Refused source n p

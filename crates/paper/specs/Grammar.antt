@@ -10,6 +10,7 @@ use mathlib.Core.List.{List, [], _∷_, _++_}
 use mathlib.Core.Option.{Option, none, some}
 use lib.ListN.{length}
 use Rattle.paper.specs.Bytes.{bytes}
+use Rattle.paper.specs.Limits.{most-names}
 use Rattle.paper.specs.Syntax.{Path, Basic, boolean, null, integer, decimal, string, reference, vector, Basics, εⱽ, _∷ⱽ_, Block, εᴮ, _∷ᴮ_, Statement, assign, Value, basic, link, extends, Prototypes, εᴾ, named, block}
 use Rattle.paper.specs.Tokens.{reserved, member, Token, name, literal, mark}
 
@@ -23,7 +24,7 @@ sign c = (mark (code c), none)
 abbrev pub word : String → Spelt
 word w = (name (bytes w), none)
 
--- ---- "Reference: names joined by `:`", the first at o
+-- ---- "Reference: 1 to 32 names joined by `:`.": the first at o; how many is asked below
 
 abbrev pub then-names : Path → List Spelt → List Spelt
 then-names [] s = []
@@ -147,7 +148,7 @@ abbrev mutual
 
 -- "1 to 32 names"; and "without its limits of 32"
 abbrev pub AtMost32 : ℕ → Type 0
-AtMost32 n = n ≤ 32
+AtMost32 n = n ≤ most-names
 
 abbrev pub AnyNumber : ℕ → Type 0
 AnyNumber n = Unit {0}

@@ -49,7 +49,7 @@ pub record Row : Type 0 where
   pub value : Field
   pub last : List ℕ
 
--- "Kinds: 0 component, 1 boolean, 2 null, 3 integer, 4 decimal, 5 string, 6 data reference, 7 vector."
+-- "Kinds: 0 component, 1 boolean, 2 null, 3 integer (two's complement), 4 decimal, 5 string, 6 data reference, 7 vector."
 unfoldable pub kind : Basic → ℕ
 kind (boolean b) = 1
 kind null = 2
@@ -125,7 +125,8 @@ unfoldable pub figure : ℕ → Field → ℕ
 figure t (number n) = n
 figure t (text s) = t
 
--- "kind, depth, name place, span, each u16; value": 16 bytes, and 4 more in a step list
+-- "Table record, 16 bytes, each followed at once by its children in order, every child by its own first: kind, depth, name place (65,535 for
+-- an element), span (nodes beneath, itself counted), each u16; value." In a step list 4 bytes more.
 unfoldable pub row-bytes : ℕ → Row → List ℕ
 row-bytes t x =
     little 2 (x .first) ++ (little 2 (x .second) ++ (little 2 (figure t (x .label)) ++ (little 2 (x .span) ++
@@ -135,7 +136,8 @@ unfoldable pub records : ℕ → List Row → List ℕ
 records t [] = []
 records t (x ∷ xs) = row-bytes t x ++ records (t + length (row-text x)) xs
 
--- "Header of six u32: form, total length, record count, record offset (24), text length, text offset. Records, then text."
+-- "Header of six u32: form (1 step list, 2 table), total length, record count, record offset (24), text length, text offset. Records, then
+-- text."
 unfoldable pub laid-out : ℕ → List Row → List ℕ
 laid-out form xs =
     let body = records 0 xs in

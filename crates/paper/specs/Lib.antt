@@ -1,6 +1,7 @@
 -- notation
 pub mod Bytes
 pub mod Answer
+pub mod Limits
 pub mod Maybe
 -- document 01, Tokens and Grammar
 pub mod Syntax
@@ -22,7 +23,10 @@ pub mod WellFormed
 pub mod Decoder
 pub mod TableDecoder
 pub mod StepDecoder
--- the four operations, Refusal numbers
+-- lent slices, Refusal numbers
+pub mod Lent
+-- what each operation answers, demands 2 and 3
+pub mod Allowed
+-- the four operations, computed
+pub mod Running
 pub mod Operations
--- demand 2
-pub mod Resolved

@@ -48,8 +48,9 @@ unfoldable mutual
     s ← Bounds.assign p r (component ∅) s
     P⟦ ps ⟧ ns r s
 
-  -- Definition 23: "left to right: a reference is resolved in the statement's own scope, outside the new component;
-  -- a block is evaluated with the new component as scope"
+  -- Definition 23: "Then prototypes left to right: a reference is resolved in the statement's own scope, *outside* the new component (for a
+  -- target `x:y` not in `x`), and the attributes of the value found are put into it one by one, in order, whole; a block is evaluated with
+  -- the new component as scope."
   pub P⟦_⟧ : Prototypes → Path → Path → Store → Answer Store
   P⟦ εᴾ ⟧ ns r s = ok s
   P⟦ named p l ps ⟧ ns r s = do

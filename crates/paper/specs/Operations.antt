@@ -1,17 +1,19 @@
--- The four operations (document 01) on bytes: the answer of each, with every refusal in its order, and what each lent slice holds
--- afterwards. A lent slice decides by its length alone, 8. Assumes nothing.
+-- The four operations (document 01) on bytes, as they are computed: the answer of each, with every refusal in its order, and the whole
+-- outcome of a call. What they answer is said plainly in `Allowed` and `Lent`. A lent slice decides by its length alone, 8. Assumes nothing.
 use Prim.Native.Nat.{ℕ}
-use mathlib.Core.Bool.{true, false}
-use mathlib.Core.List.{List, [], _∷_, _++_}
+use mathlib.Core.List.{List, [], _∷_}
 use mathlib.Core.Option.{Option, none, some}
-use lib.ListN.{length, drop, replicate}
-use lib.Dec.{leb, eqb}
+use lib.ListN.{length}
+use lib.Dec.{leb}
+use Rattle.paper.specs.Limits.{least-list, least-table, least-work}
+use Rattle.paper.specs.Lent.{Outcome, told, written, cleared}
 use Rattle.paper.specs.Answer.{Answer, ok, refused, demand, _>>=_}
 use Rattle.paper.specs.Reader.{read}
 use Rattle.paper.specs.Store.{Store, ∅}
 use Rattle.paper.specs.Meaning.{B⟦_⟧, main}
 use Rattle.paper.specs.Layout.{table}
-use Rattle.paper.specs.Steps.{Step, steps, run}
+use Rattle.paper.specs.Steps.{Step, steps}
+use Rattle.paper.specs.Running.{run}
 use Rattle.paper.specs.StepLayout.{listed}
 use Rattle.paper.specs.TableDecoder.{table-of}
 use Rattle.paper.specs.StepDecoder.{block-of}
@@ -59,21 +61,23 @@ unfoldable pub or-refused : {A : Type 0} → ℕ → Option A → Answer A
 or-refused n none = refused n 0
 or-refused n (some a) = ok a
 
--- ---- the answers: "Order: 8, 1, 9, 10; the leftmost of 2 to 6; 7; steps in turn; 19, 20."
--- "Smallest slices lent for output: step list 53,272; table 32,792. Work slices of 65,536, one to translate, two to run, three to resolve, none for main."
+-- ---- the answers: "Order: 8, 1, 9, 10; the leftmost of 2 to 6 (one token: 2, 6, 4, 3, 5; for 3 the grammar is read without its limits of 32);
+-- 7; steps in turn (11 to 13, then 21, then the first fault of 14 or 15 along the path, then 16, 17, 18); 19, 20."
+-- "Smallest slices lent for output: step list 53,272; table 32,792. An input slice is never too short for 8. Work slices of 65,536, one to
+-- translate, two to run, three to resolve, none for main."
 
 unfoldable pub translate-op : List ℕ → ℕ → ℕ → Answer (List ℕ)
 translate-op source output work = do
-  _ ← demand (leb 53272 output) 8 0
-  _ ← demand (leb 65536 work) 8 0
+  _ ← demand (leb least-list output) 8 0
+  _ ← demand (leb least-work work) 8 0
   translate source
 
 -- "Run: step list and starting table to the whole table."
 unfoldable pub run-op : List ℕ → List ℕ → ℕ → ℕ → ℕ → Answer (List ℕ)
 run-op list start output work₁ work₂ = do
-  _ ← demand (leb 32792 output) 8 0
-  _ ← demand (leb 65536 work₁) 8 0
-  _ ← demand (leb 65536 work₂) 8 0
+  _ ← demand (leb least-table output) 8 0
+  _ ← demand (leb least-work work₁) 8 0
+  _ ← demand (leb least-work work₂) 8 0
   d ← or-refused 9 (block-of list)
   s ← or-refused 10 (table-of start)
   t ← run (steps d) s
@@ -82,48 +86,20 @@ run-op list start output work₁ work₂ = do
 -- "Main: whole table to the table of `sfConfig`."
 unfoldable pub main-op : List ℕ → ℕ → Answer (List ℕ)
 main-op whole output = do
-  _ ← demand (leb 32792 output) 8 0
+  _ ← demand (leb least-table output) 8 0
   s ← or-refused 10 (table-of whole)
   c ← main s
   ok (table c)
 
 unfoldable pub resolve-op : List ℕ → ℕ → ℕ → ℕ → ℕ → Answer (List ℕ)
 resolve-op source output work₁ work₂ work₃ = do
-  _ ← demand (leb 32792 output) 8 0
-  _ ← demand (leb 65536 work₁) 8 0
-  _ ← demand (leb 65536 work₂) 8 0
-  _ ← demand (leb 65536 work₃) 8 0
+  _ ← demand (leb least-table output) 8 0
+  _ ← demand (leb least-work work₁) 8 0
+  _ ← demand (leb least-work work₂) 8 0
+  _ ← demand (leb least-work work₃) 8 0
   resolve source
 
--- ---- what the caller is told, and the lent slices afterwards
-
--- how many bytes were written, or the refusal
-unfoldable pub told : Answer (List ℕ) → Answer ℕ
-told (ok b) = ok (length b)
-told (refused n p) = refused n p
-
--- "Refusal writes nothing to the output; success writes total-length bytes and no more."
-unfoldable pub written : Answer (List ℕ) → List ℕ → List ℕ
-written (ok b) output = b ++ drop (length b) output
-written (refused n p) output = output
-
--- "Work slices: untouched by 8, else 65,536 zero bytes and the rest untouched."
-unfoldable pub zeros : ℕ → List ℕ
-zeros n = replicate n 0
-
-unfoldable pub wiped : List ℕ → List ℕ
-wiped work = zeros 65536 ++ drop 65536 work
-
-unfoldable pub cleared : Answer (List ℕ) → List ℕ → List ℕ
-cleared (ok b) work = wiped work
-cleared (refused n p) work = elim (eqb n 8) [ true ↦ work | false ↦ wiped work ]
-
 -- ---- the whole outcome of a call, from what the lent slices held before it
-
-pub record Outcome : Type 0 where
-  pub answer : Answer ℕ
-  pub output : List ℕ
-  pub works : List (List ℕ)
 
 unfoldable pub translates : List ℕ → List ℕ → List ℕ → Outcome
 translates source output work =

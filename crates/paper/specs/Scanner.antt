@@ -5,10 +5,18 @@ use mathlib.Core.List.{List, [], _∷_}
 use mathlib.Core.Option.{Option, none, some}
 use lib.ListN.{length, take, drop}
 use lib.Dec.{leb, ltb, eqb}
-use Rattle.paper.specs.Bytes.{at, empty, is, among, between, if_then_else_}
+use Rattle.paper.specs.Bytes.{at, is, among, between, if_then_else_}
 use Rattle.paper.specs.Answer.{Answer, ok, refused, _>>=_}
 use Rattle.paper.specs.Syntax.{integer, decimal, string}
-use Rattle.paper.specs.Tokens.{blank, digit, octal, starts, goes-on, in-range, valued, escaped, Token, name, literal, mark, end, Here, past}
+use Rattle.paper.specs.Tokens.{blank, digit, octal, starts, goes-on, in-range, valued, escaped, Token, name, literal, mark, end, Here}
+
+-- whether nothing is left; and the source from n bytes further on
+abbrev pub empty : List ℕ → Bool
+empty [] = true
+empty (b ∷ s) = false
+
+unfoldable pub past : ℕ → Here → Here
+past n h = record { place = h .place + n; rest = drop n (h .rest) }
 
 -- how many bytes at the front pass the test
 unfoldable pub span : (ℕ → Bool) → List ℕ → ℕ

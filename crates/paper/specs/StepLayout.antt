@@ -1,9 +1,10 @@
 -- Step lists as bytes (document 01, "Layouts"): steps as rows. Assumes nothing.
-use Prim.Native.Nat.{ℕ, suc}
+use Prim.Native.Nat.{ℕ, suc, _≤_}
 use mathlib.Core.List.{List, [], _∷_, _++_}
 use lib.ListN.{length}
 use lib.Dec.{leb}
 use Rattle.paper.specs.Answer.{Answer, ok, demand, _>>=_}
+use Rattle.paper.specs.Limits.{most-steps, most-step-text}
 use Rattle.paper.specs.Layout.{Field, number, text, Row, little, path-text, kind, content, elements, laid-out, texts}
 use Rattle.paper.specs.Steps.{Step, make, take, enter, leave, done, set, link}
 
@@ -15,8 +16,8 @@ step-row i k r m v p = record { first = i; second = k; label = r; span = m; valu
 unfoldable pub item : ℕ → ℕ → ℕ → Field → Row
 item k d m v = step-row 7 k (number 0) m v 0
 
--- "Steps: 1 make, 2 take, 3 enter, 4 leave, 5 done, 6 set, 7 item, 8 link (value is the linked path's place)."
--- "Span is 1 for set and item otherwise."
+-- "Steps: 1 make, 2 take, 3 enter, 4 leave, 5 done, 6 set, 7 item (vector elements after their set, spans as in tables), 8 link (value is the
+-- linked path's place)." "Span is 1 for set and item otherwise."
 unfoldable pub step-rows : Step → List Row
 step-rows (make p r) = step-row 1 0 (text (path-text r)) 0 (number 0) p ∷ []
 step-rows (take p r) = step-row 2 0 (text (path-text r)) 0 (number 0) p ∷ []
@@ -34,9 +35,14 @@ all-rows (i ∷ is) = step-rows i ++ all-rows is
 unfoldable pub step-list : List Step → List ℕ
 step-list is = laid-out 1 (all-rows is)
 
--- "1,024 steps and 32,768 step text bytes"; "step list over a bound", 7
+-- "1,024 steps and 32,768 step text bytes"
+pub record IsListed (is : List Step) : Type 0 where
+  pub count : length (all-rows is) ≤ most-steps
+  pub text : length (texts (all-rows is)) ≤ most-step-text
+
+-- "step list over a bound", 7
 unfoldable pub listed : List Step → Answer (List ℕ)
 listed is = do
-  _ ← demand (leb (length (all-rows is)) 1024) 7 0
-  _ ← demand (leb (length (texts (all-rows is))) 32768) 7 0
+  _ ← demand (leb (length (all-rows is)) most-steps) 7 0
+  _ ← demand (leb (length (texts (all-rows is))) most-step-text) 7 0
   ok (step-list is)

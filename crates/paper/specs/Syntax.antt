@@ -14,7 +14,7 @@ Path = List Name
 infixr 20 _∷ⱽ_
 infixr 20 _∷ᴮ_
 -- BV ::= Bool | Num | Str | DR | Vec | Null;  Vec ::= (BV)*
--- Document 01 has integers and decimals for Num, a decimal "kept as its text".
+-- Document 01 has integers and decimals for Num. Of a decimal: "Kept as its text."
 mutual
   pub data Basic : Type 0 where
     boolean : Bool → Basic

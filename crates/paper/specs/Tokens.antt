@@ -2,7 +2,6 @@
 use Prim.Native.Nat.{ℕ, _+_, _*_, _-_, _^_}
 use mathlib.Core.Bool.{Bool, true, false, not, _||_}
 use Prim.Native.Char.{Char}
-use Prim.Native.String.{String}
 use mathlib.Core.List.{List, [], _∷_}
 use mathlib.Core.Option.{Option, none, some}
 use lib.ListN.{drop}
@@ -69,26 +68,14 @@ pub data Token : Type 0 where
   mark : ℕ → Token
   end : Token
 
--- the token is a name that is not reserved; is this word; is this mark; is the end; and a name's bytes
+-- the token is a name that is not reserved; is this mark
 unfoldable pub is-name : Token → Bool
 is-name t = elim t [ name n ↦ not (member n reserved) | literal b ↦ false | mark m ↦ false | end ↦ false ]
 
-unfoldable pub is-word : String → Token → Bool
-is-word w t = elim t [ name n ↦ same n (bytes w) | literal b ↦ false | mark m ↦ false | end ↦ false ]
-
 unfoldable pub is-mark : Char → Token → Bool
 is-mark c t = elim t [ name n ↦ false | literal b ↦ false | mark m ↦ is c m | end ↦ false ]
-
-unfoldable pub is-end : Token → Bool
-is-end t = elim t [ name n ↦ false | literal b ↦ false | mark m ↦ false | end ↦ true ]
-
-unfoldable pub spelling : Token → List ℕ
-spelling t = elim t [ name n ↦ n | literal b ↦ [] | mark m ↦ [] | end ↦ [] ]
 
 -- a place in the source, and "the rest of the source" from there
 pub record Here : Type 0 where
   pub place : ℕ
   pub rest : List ℕ
-
-unfoldable pub past : ℕ → Here → Here
-past n h = record { place = h .place + n; rest = drop n (h .rest) }

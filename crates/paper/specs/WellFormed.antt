@@ -6,27 +6,29 @@ use mathlib.Core.List.{List, [], _∷_}
 use mathlib.Core.Option.{none}
 use lib.ListN.{length}
 use lib.Dec.{T}
+use Rattle.paper.specs.Limits.{most-source, most-name, most-string, most-names, most-open}
 use Rattle.paper.specs.Syntax.{Name, Path, Basic, boolean, null, integer, decimal, string, reference, vector, Basics, εⱽ, _∷ⱽ_, Block, εᴮ, _∷ᴮ_, Statement, assign, Value, basic, link, extends, Prototypes, εᴾ, named, block}
 use Rattle.paper.specs.Tokens.{reserved, member, in-range, name, literal}
 use Rattle.paper.specs.Written.{Written}
 use Rattle.paper.specs.Grammar.{Some, openings}
 use Rattle.paper.specs.Store.{Store, ∅, entry, component, lookup}
 use Rattle.paper.specs.Store as S
-use Rattle.paper.specs.Layout.{rows, deepest, texts, table}
+use Rattle.paper.specs.Bounds.{Bounded}
+use Rattle.paper.specs.Layout.{table}
 use Rattle.paper.specs.Steps.{steps}
-use Rattle.paper.specs.StepLayout.{all-rows, step-list}
+use Rattle.paper.specs.StepLayout.{IsListed, step-list}
 
 -- ---- names, paths, basics
 
 -- "names and decimals as under Tokens and not reserved"
 pub record IsName (n : Name) : Type 0 where
   pub written : Written n (name n)
-  pub short : length n ≤ 255
+  pub short : length n ≤ most-name
   pub free : member n reserved ≡ false
 
 pub record IsDecimal (t : List ℕ) : Type 0 where
   pub written : Written t (literal (decimal t))
-  pub short : length t ≤ 4095
+  pub short : length t ≤ most-string
 
 abbrev pub AreNames : Path → Type 0
 AreNames [] = Unit {0}
@@ -35,7 +37,7 @@ AreNames (n ∷ r) = IsName n × AreNames r
 -- "paths of 1 to 32 names"
 pub record IsPath (r : Path) : Type 0 where
   pub some : 1 ≤ length r
-  pub few : length r ≤ 32
+  pub few : length r ≤ most-names
   pub names : AreNames r
 
 -- "strings any bytes up to 4,095"
@@ -45,7 +47,7 @@ abbrev mutual
   IsBasic null = Unit {0}
   IsBasic (integer z) = T (in-range z)
   IsBasic (decimal t) = IsDecimal t
-  IsBasic (string t) = length t ≤ 4095
+  IsBasic (string t) = length t ≤ most-string
   IsBasic (reference r) = IsPath r
   IsBasic (vector bs) = AreBasic bs
 
@@ -69,15 +71,13 @@ abbrev mutual
 pub record IsTable (b : List ℕ) (s : Store) : Type 0 where
   pub laid-out : b ≡ table s
   pub store : IsStore s
-  pub depth : deepest (rows 1 s) ≤ 32
-  pub nodes : length (rows 1 s) ≤ 1024
-  pub text : length (texts (rows 1 s)) ≤ 16384
+  pub bounds : Bounded s
 
 -- ---- step lists
 
 -- "places below 32,768"
 abbrev pub IsPlace : ℕ → Type 0
-IsPlace p = p < 32768
+IsPlace p = p < most-source
 
 -- "steps nested as the grammar nests": the steps of a block
 abbrev mutual
@@ -102,6 +102,5 @@ abbrev mutual
 pub record IsStepList (b : List ℕ) (d : Block) : Type 0 where
   pub laid-out : b ≡ step-list (steps d)
   pub blocks : IsBlock d
-  pub nested : openings d ≤ 32
-  pub count : length (all-rows (steps d)) ≤ 1024
-  pub text : length (texts (all-rows (steps d))) ≤ 32768
+  pub nested : openings d ≤ most-open
+  pub listed : IsListed (steps d)

@@ -8,6 +8,7 @@ use mathlib.Core.List.{List, [], _∷_, _++_}
 use mathlib.Core.Option.{some}
 use lib.ListN.{length}
 use Rattle.paper.specs.Bytes.{bytes, at, is, among, between}
+use Rattle.paper.specs.Limits.{most-name, most-string}
 use Rattle.paper.specs.Syntax.{Basic, boolean, null, integer, decimal, string, reference, vector}
 use Rattle.paper.specs.Tokens.{blank, digit, octal, starts, goes-on, in-range, valued, escaped, Token, name, literal, mark, end, Here}
 
@@ -82,7 +83,9 @@ pub data Written : List ℕ → Token → Type 0 where
   a-mark : {b : ℕ} → among ";,{}[]:" b ≡ true → Written (b ∷ []) (mark b)
   the-end : Written [] end
 
--- what may not follow at once: a name is not followed by a name byte, a number not "by a name byte or `.`"; nothing follows the end
+-- what may not follow at once: a name is not followed by a name byte; nothing follows the end; and of a number
+-- "The longest number is taken; it may not be followed at once by a name byte or `.`." A longer number would go on with a digit, `e` or `E`,
+-- which are name bytes, or with `.`: so of the numbers that begin at one place only the longest is apart from what follows.
 abbrev pub Apart-literal : Basic → List ℕ → Type 0
 Apart-literal (boolean b) r = Unit {0}
 Apart-literal null r = Unit {0}
@@ -98,28 +101,28 @@ Apart (literal b) r = Apart-literal b r
 Apart (mark m) r = Unit {0}
 Apart end r = r ≡ []
 
--- the token t stands at h, after what is skipped from `at` on; `after` is after it
-pub record Stands (at : Here) (t : Token) (h after : Here) : Type 0 where
-  pub skipped : Skipped (at .rest) (h .rest)
+-- the token t stands at h, after what is skipped from `from` on; `after` is after it
+pub record Stands (from : Here) (t : Token) (h after : Here) : Type 0 where
+  pub skipped : Skipped (from .rest) (h .rest)
   pub word : List ℕ
   pub front : h .rest ≡ word ++ after .rest
   pub written : Written word t
   pub apart : Apart t (after .rest)
-  pub where-h : h .place + length (h .rest) ≡ at .place + length (at .rest)
+  pub where-h : h .place + length (h .rest) ≡ from .place + length (from .rest)
   pub where-after : after .place ≡ h .place + length word
 
 -- ---- 2, 4 and 6
 
 -- "1 to 255 bytes"; "Decoded, at most 4,095 bytes (a decimal's text too)", 6; "integer out of range", 4
 pub data Over : Token → ℕ → Type 0 where
-  long-name : {n : List ℕ} → 255 < length n → Over (name n) 6
-  long-decimal : {t : List ℕ} → 4095 < length t → Over (literal (decimal t)) 6
-  long-string : {t : List ℕ} → 4095 < length t → Over (literal (string t)) 6
+  long-name : {n : List ℕ} → most-name < length n → Over (name n) 6
+  long-decimal : {t : List ℕ} → most-string < length t → Over (literal (decimal t)) 6
+  long-string : {t : List ℕ} → most-string < length t → Over (literal (string t)) 6
   out-of-range : {z : _} → in-range z ≡ false → Over (literal (integer z)) 4
 
--- the next token from `at` on
-pub record Next (at : Here) (t : Token) (h after : Here) : Type 0 where
-  pub stands : Stands at t h after
+-- the next token from `from` on
+pub record Next (from : Here) (t : Token) (h after : Here) : Type 0 where
+  pub stands : Stands from t h after
   pub within : (n : ℕ) → Over t n → ⊥
 
 -- nothing is skipped at the front of r, not even a comment that is not closed
@@ -127,9 +130,9 @@ pub record Settled (r : List ℕ) : Type 0 where
   pub no-blank : blank (at r 0) ≡ false
   pub no-comment : (s : List ℕ) → (r ≡ bytes "//" ++ s → ⊥) × (r ≡ bytes "/*" ++ s → ⊥)
 
--- there is no next token from `at` on, but a refusal with n at p: a token over its limit; "no whole token here", 2; a comment that is not closed, 2
-pub data NoNext (at : Here) : ℕ → ℕ → Type 0 where
-  over : {t : Token} {h after : Here} {n : ℕ} → Stands at t h after → Over t n → NoNext at n (h .place)
-  no-token : {r : List ℕ} {p : ℕ} → Skipped (at .rest) r → p + length r ≡ at .place + length (at .rest) → Settled r
-      → ((t : Token) (word after : List ℕ) → r ≡ word ++ after → Written word t → Apart t after → ⊥) → NoNext at 2 p
-  no-close : {s : List ℕ} {p : ℕ} → Skipped (at .rest) (bytes "/*" ++ s) → p + length (bytes "/*" ++ s) ≡ at .place + length (at .rest) → Unclosed s → NoNext at 2 p
+-- there is no next token from `from` on, but a refusal with n at p: a token over its limit; "no whole token here", 2; a comment that is not closed, 2
+pub data NoNext (from : Here) : ℕ → ℕ → Type 0 where
+  over : {t : Token} {h after : Here} {n : ℕ} → Stands from t h after → Over t n → NoNext from n (h .place)
+  no-token : {r : List ℕ} {p : ℕ} → Skipped (from .rest) r → p + length r ≡ from .place + length (from .rest) → Settled r
+      → ((t : Token) (word after : List ℕ) → r ≡ word ++ after → Written word t → Apart t after → ⊥) → NoNext from 2 p
+  no-close : {s : List ℕ} {p : ℕ} → Skipped (from .rest) (bytes "/*" ++ s) → p + length (bytes "/*" ++ s) ≡ from .place + length (from .rest) → Unclosed s → NoNext from 2 p

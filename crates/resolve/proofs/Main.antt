@@ -10,7 +10,8 @@ use Rattle.paper.specs.Syntax.{Block}
 use Rattle.paper.specs.Store.{Store}
 use Rattle.paper.specs.Meaning.{main}
 use Rattle.paper.specs.Layout.{table}
-use Rattle.paper.specs.Steps.{steps, run}
+use Rattle.paper.specs.Steps.{steps}
+use Rattle.paper.specs.Running.{run}
 use Rattle.paper.specs.TableDecoder.{table-of}
 use Rattle.paper.specs.StepDecoder.{block-of}
 use Rattle.paper.specs.Operations.{or-refused, run-op, main-op}

@@ -6,15 +6,17 @@ use mathlib.Core.List.{List, [], _∷_, _++_}
 use lib.ListN.{length, take, drop, length-append, length-drop, length-replicate}
 use lib.Seq.{take-at, drop-at, drop-append-add, drop-drop}
 use lib.Dec.{leb, lit≤}
-use borrow.Author.Tests.{le-leb, lt-leb, ne-eqb}
+use borrow.Author.Tests.{le-leb, lt-leb}
 use Rattle.paper.specs.Answer.{Answer, ok, refused, demand, _>>=_}
 use Rattle.paper.specs.Store.{∅}
 use Rattle.paper.specs.Layout.{table}
-use Rattle.paper.specs.Operations.{Outcome, translate, resolve, translate-op, run-op, main-op, resolve-op, told, written, zeros, wiped, cleared, translates, resolves}
+use Rattle.paper.specs.Operations.{translate, resolve, translate-op, run-op, main-op, resolve-op, translates, resolves}
+use Rattle.paper.specs.Lent.{Outcome, told, written, zeros, wiped, cleared}
 use Rattle.paper.proofs.Open.{all}
 use Rattle.theorems.proofs.Demands.{demands}
 use Rattle.theorems.proofs.Laws.Answers.{under}
-use Rattle.theorems.proofs.Laws.Gives.{Gives, gives, refuses, gives-bind}
+use Rattle.theorems.proofs.Laws.Gives.{Gives, known, gives-bind}
+use Rattle.theorems.proofs.Laws.Wiped.{Other, cleared-wiped, high-other, wiped-twice, wiped-long}
 use Rattle.theorems.proofs.Legal.Read.{translate-well, translate-numbers}
 use Rattle.theorems.proofs.Decoded.StepList.{steps-length}
 use Rattle.memory.specs.Memory.{stored}
@@ -25,7 +27,7 @@ use Rattle.translate.specs.declared.answer.Answer.the-variants.{Done as Listed,
 use Rattle.run.specs.declared.operation.Answer.{Answer as Ran}
 use Rattle.run.specs.declared.operation.Answer.the-variants.{Refused as Not}
 use Rattle.run.specs.Runs as R
-use Rattle.run.proofs.Ending.{any, rest-is}
+use Rattle.run.proofs.Ending.{rest-is}
 use Rattle.run.proofs.Choosing.{main-gives}
 use Rattle.resolve.specs.Resolves.{outcome, Resolving}
 use Rattle.resolve.proofs.Main.{main-of-whole}
@@ -55,41 +57,11 @@ in-turn source =
 
 -- ---- 8 is for short slices alone
 
-abbrev Other : ℕ → Type 0
-Other n = n ≡ 8 → ⊥
-
 translate-gives : (source : List ℕ) → Gives Other (λ _. Unit {0}) (translate source)
-translate-gives source = any {Q = Other} {P = λ _. Unit {0}} (translate source) (λ list e. tt) (λ n p e h. let k : n ≤ 7 = translate-numbers source n p e .1 in omega arith)
+translate-gives source = known {Q = Other} {P = λ _. Unit {0}} (translate source) (λ list e. tt) (λ n p e h. let k : n ≤ 7 = translate-numbers source n p e .1 in omega arith)
 
 resolve-gives : (source : List ℕ) → Gives Other (λ _. Unit {0}) (resolve source)
-resolve-gives source = rw (in-turn source) (gives-bind {P = λ _. Unit {0}} meant (translate-gives source) (λ list _. gives-other (meant list) (main-gives list (table ∅))))
-  where
-    gives-other : (a : Answer (List ℕ)) → Gives (λ n. 8 < n) (λ _. Unit {0}) a → Gives Other (λ _. Unit {0}) a
-    gives-other a (gives h) = gives tt
-    gives-other a (refuses {n} q) = refuses (λ (e : n ≡ 8). omega arith)
-
-cleared-wiped : (a : Answer (List ℕ)) (w : List ℕ) → Gives Other (λ _. Unit {0}) a → cleared a w ≡ wiped w
-unfolding cleared
-cleared-wiped a w (gives h) = refl
-cleared-wiped a w (refuses {n} h) = rw (ne-eqb n 8 h, cleared)
-
--- ---- work slices
-
-zeros-length : length (zeros 65536) ≡ 65536
-unfolding zeros
-zeros-length = length-replicate {A = ℕ} 65536 0
-
-wiped-behind : (w : List ℕ) → drop 65536 (wiped w) ≡ drop 65536 w
-unfolding wiped
-wiped-behind w = drop-at (zeros 65536) (drop 65536 w) 65536 zeros-length
-
-wiped-twice : (w : List ℕ) → wiped (wiped w) ≡ wiped w
-unfolding wiped
-wiped-twice w = ap (λ x. zeros 65536 ++ x) (wiped-behind w)
-
-pub wiped-long : (w : List ℕ) → 65536 ≤ length w → 65536 ≤ length (wiped w)
-unfolding wiped
-wiped-long w h = rw (length-append (zeros 65536) (drop 65536 w), zeros-length) (omega arith)
+resolve-gives source = rw (in-turn source) (gives-bind {P = λ _. Unit {0}} meant (translate-gives source) (λ list _. high-other (main-gives list (table ∅))))
 
 -- ---- the empty table
 
@@ -148,7 +120,7 @@ module _ (source w₁ w₃ : List ℕ) (l₁ : 65536 ≤ length w₁) (l₃ : 65
           let z : _≡_ {A = Answer ℕ} (ok n) (ok (length list)) = sym (ap T.answered e) ∙ told-is ∙ ap told q in
           let m : length list ≡ n = cc in
           let t = translate-well source list q .is-listed in
-          let f : length list ≤ 53272 = omega (arith, steps-length t, t .count, t .text) in
+          let f : length list ≤ 53272 = omega (arith, steps-length t, t .listed .count, t .listed .text) in
           let w : w₃′ ≡ list ++ drop (length list) w₃ = third-is ∙ ap (λ a. written a w₃) q in
           record {
             list = list;

@@ -3,7 +3,8 @@ use Prim.Native.Nat.{ℕ}
 use mathlib.Core.Path.{_≡_}
 use mathlib.Core.List.{List, [], _∷_}
 use lib.ListN.{drop}
-use Rattle.paper.specs.Operations.{Outcome, resolve, told, written, wiped}
+use Rattle.paper.specs.Operations.{resolve}
+use Rattle.paper.specs.Lent.{Outcome, told, written, wiped}
 use Rattle.run.specs.Runs.{answered}
 use Rattle.run.specs.declared.operation.Answer.{Answer}
 

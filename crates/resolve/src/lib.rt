@@ -8,7 +8,8 @@ ghost use Prim.Native.Nat.{_≤_};
 ghost use lib.ListN.{length};
 ghost use Rattle.paper.specs.Store.{∅};
 ghost use Rattle.paper.specs.Layout.{table};
-ghost use Rattle.paper.specs.Operations.{Outcome, resolves};
+ghost use Rattle.paper.specs.Operations.{resolves};
+ghost use Rattle.paper.specs.Lent.{Outcome};
 ghost use Rattle.run.specs.Runs as Run;
 ghost use Rattle.resolve.specs.Resolves.{outcome, Resolving};
 

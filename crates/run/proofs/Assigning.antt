@@ -12,10 +12,9 @@ use Rattle.paper.specs.Bytes.{if_then_else_}
 use Rattle.paper.specs.Answer.{Answer, ok, refused, demand, _>>=_}
 use Rattle.paper.specs.Syntax.{Name, Path}
 use Rattle.paper.specs.Store.{Store, ∅, entry, Value, put, bind}
-use Rattle.paper.specs.Bounds.{bounded, assign}
+use Rattle.paper.specs.Bounds.{Bounded, bounded, assign}
 use Rattle.paper.specs.Meaning.{copy}
 use Rattle.paper.specs.Layout.{Field, number, text, Row, name-text, rows, deepest, texts}
-use Rattle.theorems.proofs.Legal.Bounds.{Bounded}
 use Rattle.rows.specs.View.{view, rows-in, label-of, label-text, name-of, seen, groups}
 use Rattle.rows.specs.Search.{deeper, text-bytes}
 use Rattle.rows.specs.Change.{field-at}

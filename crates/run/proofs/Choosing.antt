@@ -13,7 +13,7 @@ use Rattle.paper.specs.Syntax.{Name, Basic}
 use Rattle.paper.specs.Store.{Store, basic, component, lookup, find}
 use Rattle.paper.specs.Meaning.{main}
 use Rattle.paper.specs.Layout.{Row, table}
-use Rattle.theorems.proofs.Laws.Gives.{Gives, gives, gives-bind, gives-ok}
+use Rattle.theorems.proofs.Laws.Gives.{Gives, gives, known, gives-bind, gives-ok}
 use Rattle.theorems.proofs.Legal.Bounds.{Main, Main.absent, Main.no-component, mains, main-numbers}
 use Rattle.memory.specs.Memory.{stored}
 use Rattle.rows.specs.View.{view, rows-in}
@@ -29,7 +29,7 @@ use Rattle.run.specs.declared.operation.Answer.the-variants.{Refused as 
 use Rattle.run.specs.Runs.{store-of, main-of, AnsweredIs, MainIs, run-main-op, runs-main}
 use Rattle.run.proofs.Leading.{find-first, find-none, none≢some, first-of, Hit, Hit.hit-basic, Hit.hit-component, hit-here}
 use Rattle.run.proofs.Walking.{rows-view, sought-in, kind-here}
-use Rattle.run.proofs.Ending.{refused-is, done-is, Given, store-gives, any, lent, settled, rest-is}
+use Rattle.run.proofs.Ending.{refused-is, done-is, Given, store-gives, lent, settled, rest-is}
 
 abbrev sfConfig : Name
 sfConfig = bytes "sfConfig"
@@ -145,4 +145,4 @@ module _ (list start : List ℕ) where
   pub main-gives : Gives (λ n. 8 < n) (λ _. Unit {0}) (main-of (store-of list start))
   unfolding main-of
   main-gives =
-      gives-bind _ (store-gives list start) (λ t h. gives-bind _ (any {P = λ _. Unit {0}} (main t) (λ c e. tt) (λ n p e. past n (main-numbers t n p h e))) (λ c _. gives tt))
+      gives-bind _ (store-gives list start) (λ t h. gives-bind _ (known {P = λ _. Unit {0}} (main t) (λ c e. tt) (λ n p e. past n (main-numbers t n p h e))) (λ c _. gives tt))

@@ -6,24 +6,28 @@ use mathlib.Core.List.{List, [], _∷_, _++_}
 use lib.ListN.{length, take, drop, length-append, length-drop, take-append-drop}
 use lib.Seq.{drop-at, length-take-le}
 use lib.Dec.{leb, lit≤}
-use borrow.Author.Tests.{le-leb, lt-leb, ne-eqb}
+use borrow.Author.Tests.{le-leb, lt-leb}
 use Rattle.paper.specs.Answer.{ok, refused, demand, _>>=_}
 use Rattle.paper.specs.Answer as Paper
 use Rattle.paper.specs.Store.{Store}
 use Rattle.paper.specs.Meaning.{B⟦_⟧}
 use Rattle.paper.specs.Layout.{Row, table}
-use Rattle.paper.specs.Steps.{steps, run}
+use Rattle.paper.specs.Steps.{steps}
+use Rattle.paper.specs.Running.{run}
 use Rattle.paper.specs.WellFormed.{IsTable, IsStepList}
 use Rattle.paper.specs.TableDecoder.{table-of}
 use Rattle.paper.specs.StepDecoder.{block-of}
-use Rattle.paper.specs.Operations.{Outcome, or-refused, told, written, cleared, zeros, wiped, run-op, runs}
+use Rattle.paper.specs.Operations.{or-refused, run-op, runs}
+use Rattle.paper.specs.Lent.{Outcome, told, written, cleared, zeros, wiped}
 use Rattle.theorems.proofs.Compiled.{compiled}
 use Rattle.theorems.proofs.Decoded.StepList.{steps-exact}
 use Rattle.theorems.proofs.Decoded.Table.{table-exact}
 use Rattle.theorems.proofs.Demands.Answers.{from}
 use Rattle.theorems.proofs.Laws.Answers.{assoc, under}
-use Rattle.theorems.proofs.Laws.Gives.{Gives, gives, refuses, gives-bind}
-use Rattle.theorems.proofs.Legal.Bounds.{Bounded, IsBounded, of-table, evaluates, evaluates-numbers}
+use Rattle.theorems.proofs.Laws.Gives.{Gives, gives, known, gives-bind}
+use Rattle.theorems.proofs.Laws.Wiped.{cleared-wiped, high-other}
+use Rattle.paper.specs.Bounds.{Bounded}
+use Rattle.theorems.proofs.Legal.Bounds.{IsBounded, of-table, evaluates, evaluates-numbers}
 use Rattle.memory.specs.Memory.{stored}
 use Rattle.memory.proofs.Laws.{clear-wiped, length-stored}
 use Rattle.forms.specs.Header.{text-of}
@@ -98,16 +102,12 @@ whole-done list start t u w o o′ n k G l room e f =
 
 -- ---- a refusal of the steps is none of 8
 
-pub any : {X : Type 0} {Q : ℕ → Type 0} {P : X → Type 0} (m : Paper.Answer X) → ((x : X) → m ≡ ok x → P x) → ((n p : ℕ) → m ≡ refused n p → Q n) → Gives Q P m
-any (ok x) f g = gives (f x refl)
-any (refused n p) f g = refuses (g n p refl)
-
 pub store-gives : (list start : List ℕ) → Gives (λ n. 8 < n) IsBounded (store-of list start)
 unfolding store-of
 store-gives list start =
     gives-bind _ (from 9 (λ n. 8 < n) (IsStepList list) (block-of list) (lit≤ tt) (λ d e. steps-exact list d .0 e)) (λ d hd.
     gives-bind _ (from 10 (λ n. 8 < n) (IsTable start) (table-of start) (lit≤ tt) (λ s e. table-exact start s .0 e)) (λ s hs.
-    rw (compiled d s) (any (B⟦ d ⟧ [] s) (λ t e. evaluates d s t (hd .blocks) (of-table hs) e) (λ n p e. omega (arith, evaluates-numbers d s n p (hd .blocks) (of-table hs) e .0)))))
+    rw (compiled d s) (known (B⟦ d ⟧ [] s) (λ t e. evaluates d s t (hd .blocks) (of-table hs) e) (λ n p e. omega (arith, evaluates-numbers d s n p (hd .blocks) (of-table hs) e .0)))))
 
 pub whole-gives : (a : Paper.Answer Store) → Gives (λ n. 8 < n) IsBounded a → Gives (λ n. 8 < n) (λ _. Unit {0}) (whole-of a)
 unfolding whole-of
@@ -121,11 +121,6 @@ lent a o w₁ w₂ = demand (leb 32792 o) 8 0 >>= λ _. demand (leb 65536 w₁) 
 
 unfoldable pub settled : Paper.Answer (List ℕ) → List ℕ → List ℕ → List ℕ → Outcome
 settled a o w₁ w₂ = let b = lent a (length o) (length w₁) (length w₂) in record { answer = told b; output = written b o; works = cleared b w₁ ∷ cleared b w₂ ∷ [] }
-
-cleared-wiped : (a : Paper.Answer (List ℕ)) (w : List ℕ) → Gives (λ n. 8 < n) (λ _. Unit {0}) a → cleared a w ≡ wiped w
-unfolding cleared
-cleared-wiped a w (gives h) = refl
-cleared-wiped a w (refuses {n} h) = rw (ne-eqb n 8 (λ e. omega arith), cleared)
 
 module _ (a : Paper.Answer (List ℕ)) (o w₁ w₂ : List ℕ) where
   pub output-short : length o < 32792 → _≡_ {A = Outcome} (outcome (Not 8 0) o w₁ w₂) (settled a o w₁ w₂)
@@ -149,8 +144,8 @@ module _ (a : Paper.Answer (List ℕ)) (o w₁ w₂ : List ℕ) where
         → _≡_ {A = Outcome} (outcome r o′ w₁′ w₂′) (settled a o w₁ w₂)
     unfolding settled
     all-settled m g o′ w₁′ w₂′ r A e₁ e₂ =
-        let f₁ : w₁′ ≡ cleared a w₁ = e₁ ∙ sym (cleared-wiped a w₁ g) in
-        let f₂ : w₂′ ≡ cleared a w₂ = e₂ ∙ sym (cleared-wiped a w₂ g) in
+        let f₁ : w₁′ ≡ cleared a w₁ = e₁ ∙ sym (cleared-wiped a w₁ (high-other g)) in
+        let f₂ : w₂′ ≡ cleared a w₂ = e₂ ∙ sym (cleared-wiped a w₂ (high-other g)) in
         (λ i. record { answer = A .0 i; output = A .1 i; works = f₁ i ∷ f₂ i ∷ [] })
         ∙ ap (λ b. record { answer = told b; output = written b o; works = cleared b w₁ ∷ cleared b w₂ ∷ [] }) (sym (lent-long m))
 

@@ -131,20 +131,20 @@ module _ (b : List ℕ) (d : Block) (h : IsStepList b d) where
 
   list-records : records-of Steps b ≡ records 0 (all-rows (steps d))
   unfolding records-of size-of form-of in-steps step-list
-  list-records = rw (h .laid-out) (recs-there 1 20 (all-rows (steps d)) list-long (omega arith) (h .count) (h .text))
+  list-records = rw (h .laid-out) (recs-there 1 20 (all-rows (steps d)) list-long (omega arith) (h .listed .count) (h .listed .text))
 
   list-text : text-of b ≡ texts (all-rows (steps d))
   unfolding text-of step-list
-  list-text = rw (h .laid-out) (text-there 1 20 (all-rows (steps d)) list-long (omega arith) (h .count) (h .text))
+  list-text = rw (h .laid-out) (text-there 1 20 (all-rows (steps d)) list-long (omega arith) (h .listed .count) (h .listed .text))
 
   pub list-lies : Lies (records-of Steps b) (text-of b) 0 0 (all-rows (steps d) ++ [])
   list-lies = rw append-nil (record { rows = list-records; text-there = list-text })
 
   pub list-few : length (records-of Steps b) ≤ 20480
-  list-few = omega (arith, ap length list-records, list-long, h .count)
+  list-few = omega (arith, ap length list-records, list-long, h .listed .count)
 
   pub list-light : length (text-of b) ≤ 32768
-  list-light = omega (arith, ap length list-text, h .text)
+  list-light = omega (arith, ap length list-text, h .listed .text)
 
 -- ---- a table
 
@@ -154,32 +154,32 @@ module _ (b : List ℕ) (s : Store) (h : IsTable b s) where
 
   table-records : records-of Table b ≡ records 0 (rows 1 s)
   unfolding records-of size-of form-of in-table table
-  table-records = rw (h .laid-out) (recs-there 2 16 (rows 1 s) table-long (omega arith) (h .nodes) (omega (arith, h .text)))
+  table-records = rw (h .laid-out) (recs-there 2 16 (rows 1 s) table-long (omega arith) (h .bounds .nodes) (omega (arith, h .bounds .text)))
 
   table-text : text-of b ≡ texts (rows 1 s)
   unfolding text-of table
-  table-text = rw (h .laid-out) (text-there 2 16 (rows 1 s) table-long (omega arith) (h .nodes) (omega (arith, h .text)))
+  table-text = rw (h .laid-out) (text-there 2 16 (rows 1 s) table-long (omega arith) (h .bounds .nodes) (omega (arith, h .bounds .text)))
 
   pub table-light : length (text-of b) ≤ 16384
-  table-light = omega (arith, ap length table-text, h .text)
+  table-light = omega (arith, ap length table-text, h .bounds .text)
 
   module _ (w : List ℕ) (room : 65536 ≤ length w) (n : ℕ) (en : n ≡ loads (records-of Table b) w) where
     fits : length (records-of Table b) ≤ length w
-    fits = omega (arith, ap length table-records, table-long, h .nodes)
+    fits = omega (arith, ap length table-records, table-long, h .bounds .nodes)
 
     rows-many : n ≡ length (rows 1 s)
-    rows-many = en ∙ load-count s (records-of Table b) (text-of b) w (h .store) (h .depth) (h .nodes) (h .text) table-records table-text fits
+    rows-many = en ∙ load-count s (records-of Table b) (text-of b) w (h .store) (h .bounds .depth) (h .bounds .nodes) (h .bounds .text) table-records table-text fits
 
     pub rows-few : n ≤ 1024
-    rows-few = omega (arith, rows-many, h .nodes)
+    rows-few = omega (arith, rows-many, h .bounds .nodes)
 
     -- whatever the first text is
     pub table-held : (t w₁ : List ℕ) → w₁ ≡ load-stored (records-of Table b) (text-of b) w → Held (view t (text-of b) w₁ n) (length (text-of b)) s
     table-held t w₁ e =
-        let v = load-view s (records-of Table b) (text-of b) w (h .store) (h .depth) (h .nodes) (h .text) table-records table-text fits t in
+        let v = load-view s (records-of Table b) (text-of b) w (h .store) (h .bounds .depth) (h .bounds .nodes) (h .bounds .text) table-records table-text fits t in
         let q : view t (text-of b) w₁ n ≡ _ = ap (λ x. view t (text-of b) x n) e ∙ ap (view t (text-of b) (load-stored (records-of Table b) (text-of b) w)) rows-many ∙ v in
         record {
           rows = q;
           bytes = ap length table-text ∙ sym (text-bytes-flat 1 s) ∙ ap text-bytes (sym q);
-          bounds = record { depth = h .depth; nodes = h .nodes; text = h .text };
+          bounds = h .bounds;
         }

@@ -6,10 +6,9 @@ use lib.ListN.{length, take, drop}
 use Rattle.paper.specs.Answer.{Answer, ok, refused}
 use Rattle.paper.specs.Syntax.{Name, Path}
 use Rattle.paper.specs.Store.{Store, Value, put}
-use Rattle.paper.specs.Bounds.{assign}
+use Rattle.paper.specs.Bounds.{Bounded, assign}
 use Rattle.paper.specs.Meaning.{copy}
 use Rattle.paper.specs.Layout.{Row, deepest}
-use Rattle.theorems.proofs.Legal.Bounds.{Bounded}
 use Rattle.rows.specs.View.{view}
 use Rattle.rows.specs.Search.{text-bytes}
 use Rattle.rows.specs.Flat.{flat, flat-value, Low}

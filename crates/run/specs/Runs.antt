@@ -9,10 +9,12 @@ use Rattle.paper.specs.Answer as Paper
 use Rattle.paper.specs.Store.{Store}
 use Rattle.paper.specs.Meaning.{main}
 use Rattle.paper.specs.Layout.{table}
-use Rattle.paper.specs.Steps.{steps, run}
+use Rattle.paper.specs.Steps.{steps}
+use Rattle.paper.specs.Running.{run}
 use Rattle.paper.specs.TableDecoder.{table-of}
 use Rattle.paper.specs.StepDecoder.{block-of}
-use Rattle.paper.specs.Operations.{Outcome, or-refused, told, written, cleared}
+use Rattle.paper.specs.Operations.{or-refused}
+use Rattle.paper.specs.Lent.{Outcome, told, written, cleared}
 use Rattle.theorems.proofs.Legal.Bounds.{IsBounded}
 use Rattle.forms.specs.Header.{text-of}
 use Rattle.rows.specs.View.{view}

@@ -12,7 +12,7 @@ use write::write;
 ghost use mathlib.Core.Path.{_≡_};
 ghost use Prim.Native.Nat.{_≤_};
 ghost use lib.ListN.{length};
-ghost use Rattle.paper.specs.Operations.{Outcome};
+ghost use Rattle.paper.specs.Lent.{Outcome};
 ghost use Rattle.run.specs.Runs.{outcome, AnsweredIs, store-of, main-of, MainIs, runs-main};
 
 const MAIN: [u8; 8] = *b"sfConfig";

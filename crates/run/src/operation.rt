@@ -7,7 +7,8 @@ use write::write;
 ghost use mathlib.Core.Path.{_≡_};
 ghost use Prim.Native.Nat.{_≤_};
 ghost use lib.ListN.{length};
-ghost use Rattle.paper.specs.Operations.{Outcome, runs};
+ghost use Rattle.paper.specs.Operations.{runs};
+ghost use Rattle.paper.specs.Lent.{Outcome};
 ghost use Rattle.run.specs.Runs.{outcome, AnsweredIs, store-of, whole-of};
 
 const OUTPUT: usize = 32792;

@@ -9,9 +9,9 @@ use lib.ListN.{length, take, drop, length-drop}
 use lib.Seq.{paste-zero}
 use lib.Dec.{leb, lit<}
 use borrow.Author.Tests.{eq-eqb, ne-eqb, le-leb, lt-leb}
-use Rattle.paper.specs.Bytes.{at, is, empty, if_then_else_}
+use Rattle.paper.specs.Bytes.{at, is, if_then_else_}
 use Rattle.paper.specs.Tokens.{starts, digit}
-use Rattle.paper.specs.Scanner.{Scanned, named, number, text, scan}
+use Rattle.paper.specs.Scanner.{Scanned, named, number, text, scan, empty}
 use Rattle.theorems.proofs.Laws.Answers.{if-case}
 use Rattle.spelling.specs.declared.text.Quoted.the-variants.{Closed, Unclosed}
 use Rattle.spelling.specs.Text.{quotes, quotedOf, isClosed, textIn, put}

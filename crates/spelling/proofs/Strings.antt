@@ -10,9 +10,9 @@ use lib.ListN.{length, take, drop, getD, set, drop-of-length-le, length-drop}
 use lib.Seq.{drop-drop, paste, paste-suc, take-all}
 use lib.Dec.{leb, lit<}
 use borrow.Author.Tests.{eq-eqb, ne-eqb, eqb-true, leb-true}
-use Rattle.paper.specs.Bytes.{at, is, among, between, empty, if_then_else_}
+use Rattle.paper.specs.Bytes.{at, is, among, between, if_then_else_}
 use Rattle.paper.specs.Tokens.{octal, escaped}
-use Rattle.paper.specs.Scanner.{meant, quoted}
+use Rattle.paper.specs.Scanner.{meant, quoted, empty}
 use Rattle.theorems.proofs.Laws.Answers.{if-case}
 use Rattle.theorems.proofs.Scanned.Classes.{and-left, and-right, or-right}
 use Rattle.spelling.specs.declared.text.Meant.the-variants.{Byte, Bad}

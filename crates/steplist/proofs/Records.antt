@@ -9,7 +9,7 @@ use lib.ListN.{length, drop-of-length-le}
 use lib.Seq.{drop-cons}
 use lib.Dec.{leb, ltb, eqb}
 use borrow.Author.Tests.{leb-true, eqb-true, le-leb, lt-leb, eq-eqb, ne-eqb}
-use Rattle.paper.specs.Bytes.{empty}
+use Rattle.paper.specs.Scanner.{empty}
 use Rattle.paper.specs.Maybe.{_>>=_, require}
 use Rattle.paper.specs.Decoder.{Cursor, Raw, record-at}
 use Rattle.paper.specs.StepDecoder.{plain, bare, step-here, stops}

@@ -8,7 +8,8 @@ use Rattle.paper.specs.Store.{Store, ∅, component, resolve}
 use Rattle.paper.specs.Store as S
 use Rattle.paper.specs.Bounds as Bounds
 use Rattle.paper.specs.Meaning.{inherit, linked, B⟦_⟧, A⟦_⟧, V⟦_⟧, P⟦_⟧}
-use Rattle.paper.specs.Steps.{Step, leave, done, steps, statement-steps, value-steps, prototype-steps, Where, made, step, exec, run}
+use Rattle.paper.specs.Steps.{Step, leave, done, steps, statement-steps, value-steps, prototype-steps}
+use Rattle.paper.specs.Running.{Where, made, step, exec, run}
 use Rattle.theorems.proofs.Laws.Answers.{assoc, under}
 
 -- ---- running one list after another

@@ -5,3 +5,4 @@ pub mod Rescan
 pub mod Enough
 pub mod DecodeFree
 pub mod DecodeAt
+pub mod Wiped

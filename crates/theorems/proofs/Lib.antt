@@ -3,7 +3,7 @@ pub mod Compiled
 pub mod Decoded
 pub mod Legal
 pub mod Demands
-pub mod Determined
+pub mod Kept
 pub mod Scanned
 pub mod ReadExactly
 pub mod Instances

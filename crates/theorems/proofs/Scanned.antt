@@ -11,8 +11,8 @@ use lib.Seq.{drop-append-seam}
 use borrow.Author.Tests.{not-false}
 use Rattle.paper.specs.Bytes.{bytes, among}
 use Rattle.paper.specs.Answer.{Answer, ok, refused, _>>=_}
-use Rattle.paper.specs.Tokens.{blank, Token, Here, past}
-use Rattle.paper.specs.Scanner.{token, fault, scan, found, next}
+use Rattle.paper.specs.Tokens.{blank, Token, Here}
+use Rattle.paper.specs.Scanner.{token, fault, scan, found, next, past}
 use Rattle.paper.specs.Scanner as Scanner
 use Rattle.paper.specs.Written.{Skipped, Unclosed, Settled, Written, Apart, Stands, Over, long-name, long-decimal, long-string, out-of-range, Next, NoNext}
 use Rattle.paper.specs.Written as Form

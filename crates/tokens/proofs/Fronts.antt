@@ -9,10 +9,10 @@ use lib.ListN.{length, take, drop, length-drop}
 use lib.Seq.{length-take-le}
 use lib.Dec.{leb}
 use borrow.Author.Tests.{eq-eqb, ne-eqb, le-leb, lt-leb, lt-ltb, le-ltb, not-true, not-false}
-use Rattle.paper.specs.Bytes.{at, is, among, empty, if_then_else_}
+use Rattle.paper.specs.Bytes.{at, is, among, if_then_else_}
 use Rattle.paper.specs.Syntax.{integer, string}
 use Rattle.paper.specs.Tokens.{starts, digit, goes-on, in-range, valued, reserved, literal, mark}
-use Rattle.paper.specs.Scanner.{token, fault, span, named, number, text, scan, whole}
+use Rattle.paper.specs.Scanner.{token, fault, span, named, number, text, scan, whole, empty}
 use Rattle.paper.specs.Layout.{complement}
 use Rattle.tokens.specs.declared.Kind.the-variants.{Integer, Decimal, Text, End}
 use Rattle.tokens.specs.declared.numbers.Amount.{Amount}

@@ -5,8 +5,8 @@ use Prim.Native.Nat.{ℕ, _+_, _-_, _≤_}
 use native.Mathlib.Omega.{arith}
 use lib.ListN.{length, drop}
 use Rattle.paper.specs.Answer.{ok, refused, _>>=_}
-use Rattle.paper.specs.Tokens.{Token, Here, past}
-use Rattle.paper.specs.Scanner.{Scanned, token, fault, scan, found, next}
+use Rattle.paper.specs.Tokens.{Token, Here}
+use Rattle.paper.specs.Scanner.{Scanned, token, fault, scan, found, next, past}
 use Rattle.tokens.specs.declared.gaps.Skipped.the-variants.{To, Open}
 use Rattle.tokens.specs.declared.Kind.{Kind}
 use Rattle.tokens.specs.declared.scan.Front.{Front}

@@ -8,10 +8,10 @@ use native.Mathlib.Omega.{arith}
 use lib.ListN.{length, take, drop, getD, length-drop}
 use lib.Dec.{eqb}
 use borrow.Author.Tests.{eqb-false, leb-true}
-use Rattle.paper.specs.Bytes.{at, is, empty}
+use Rattle.paper.specs.Bytes.{at, is}
 use Rattle.paper.specs.Syntax.{integer, decimal, string}
 use Rattle.paper.specs.Tokens.{starts, goes-on, in-range, valued, name, literal, mark, end}
-use Rattle.paper.specs.Scanner.{Scanned, token, fault, span, named, number, quoted, text, scan, whole}
+use Rattle.paper.specs.Scanner.{Scanned, token, fault, span, named, number, quoted, text, scan, whole, empty}
 use Rattle.theorems.proofs.Laws.Answers.{if-case}
 use Rattle.theorems.proofs.Laws.Rescan.{span-le}
 use Rattle.theorems.proofs.Scanned.Classes.{or-left}

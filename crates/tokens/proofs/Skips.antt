@@ -14,8 +14,8 @@ use Rattle.theorems.proofs.Scanned.Classes.{and-right}
 use Rattle.theorems.proofs.Laws.Rescan.{span-le}
 use Rattle.paper.specs.Bytes.{at, is, if_then_else_}
 use Rattle.paper.specs.Answer.{Answer, ok, refused}
-use Rattle.paper.specs.Tokens.{blank, Here, past}
-use Rattle.paper.specs.Scanner.{span, closing, gap, skip}
+use Rattle.paper.specs.Tokens.{blank, Here}
+use Rattle.paper.specs.Scanner.{span, closing, gap, skip, past}
 use Rattle.tokens.specs.declared.gaps.Ends.the-variants.{At, Never}
 use Rattle.tokens.specs.declared.gaps.Skipped.the-variants.{To, Open}
 use Rattle.tokens.specs.Gaps.{endOf, skipOf, skips}

@@ -13,8 +13,9 @@ use borrow.Author.Tests.{le-leb}
 use Rattle.paper.specs.Bytes.{bytes, at, is, same, if_then_else_}
 use Rattle.paper.specs.Answer.{Answer, ok, refused}
 use Rattle.paper.specs.Syntax.{Basic, integer, decimal, string}
-use Rattle.paper.specs.Tokens.{Token, name, literal, mark, end, Here, past, reserved, member, valued, in-range, is-name, is-word, is-mark, is-end}
-use Rattle.paper.specs.Scanner.{Scanned, token, fault, scan, found, next}
+use Rattle.paper.specs.Tokens.{Token, name, literal, mark, end, Here, reserved, member, valued, in-range, is-name, is-mark}
+use Rattle.paper.specs.Reader.{is-word, is-end}
+use Rattle.paper.specs.Scanner.{Scanned, token, fault, scan, found, next, past}
 use Rattle.paper.specs.Layout.{complement}
 use Rattle.theorems.proofs.Scanned.Classes.{or-left, or-right}
 use Rattle.tokens.specs.declared.Kind.{Kind}

@@ -11,7 +11,8 @@ pub use answer::Answer;
 use grammar::Read;
 ghost use mathlib.Core.Path.{_≡_};
 ghost use mathlib.Core.List.{[], _∷_};
-ghost use Rattle.paper.specs.Operations.{Outcome, translates};
+ghost use Rattle.paper.specs.Operations.{translates};
+ghost use Rattle.paper.specs.Lent.{Outcome};
 ghost use Rattle.translate.specs.Answers.{answered};
 
 const OUTPUT: usize = 53272;

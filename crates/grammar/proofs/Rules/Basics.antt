@@ -8,9 +8,9 @@ use lib.ListN.{length}
 use borrow.Author.Tests.{ne-eqb}
 use Rattle.paper.specs.Bytes.{bytes, if_then_else_}
 use Rattle.paper.specs.Answer.{Answer, ok, refused, _>>=_, demand}
-use Rattle.paper.specs.Tokens.{Token, name, literal, mark, end, is-name, is-word, is-mark, member, reserved, Here}
+use Rattle.paper.specs.Tokens.{Token, name, literal, mark, end, is-name, is-mark, member, reserved, Here}
 use Rattle.paper.specs.Scanner.{next}
-use Rattle.paper.specs.Reader.{expect, path}
+use Rattle.paper.specs.Reader.{expect, path, is-word}
 use Rattle.paper.specs.Layout.{path-text}
 use Rattle.grammar.specs.Drafts.{Drafted, one, draft-word, draft-literal, draft-basic}
 use Rattle.grammar.specs.Places.{here, Shown, Stood}

@@ -7,9 +7,9 @@ use mathlib.Core.Bool.{true, false}
 use mathlib.Core.List.{List}
 use borrow.Author.Tests.{eq-eqb, ne-eqb}
 use Rattle.paper.specs.Answer.{refused, ok, _>>=_, demand}
-use Rattle.paper.specs.Tokens.{Token, name, literal, mark, end, is-name, is-mark, is-word, member, reserved}
+use Rattle.paper.specs.Tokens.{Token, name, literal, mark, end, is-name, is-mark, member, reserved}
 use Rattle.paper.specs.Scanner.{next}
-use Rattle.paper.specs.Reader.{expect}
+use Rattle.paper.specs.Reader.{expect, is-word}
 use Rattle.grammar.specs.Places.{here, Shown, Stood}
 use Rattle.grammar.specs.Seen.{NameSeen, WordIs, LiteralIs, SeenIs, NotMark}
 use Rattle.grammar.specs.Paths.{NoName}

@@ -7,9 +7,9 @@ use mathlib.Core.List.{List, [], _∷_, _++_, append-nil}
 use lib.ListN.{length, length-append}
 use Rattle.paper.specs.Bytes.{if_then_else_}
 use Rattle.paper.specs.Answer.{ok, refused, _>>=_, demand}
-use Rattle.paper.specs.Tokens.{mark, is-mark, is-name, spelling, name}
+use Rattle.paper.specs.Tokens.{mark, is-mark, is-name, name}
 use Rattle.paper.specs.Scanner.{next}
-use Rattle.paper.specs.Reader.{names, path}
+use Rattle.paper.specs.Reader.{names, path, spelling}
 use Rattle.paper.specs.Layout.{path-text, names-text, name-text}
 use Rattle.grammar.specs.Places.{here, Shown, Stood}
 use Rattle.grammar.specs.Seen.{NameSeen, NotMark}

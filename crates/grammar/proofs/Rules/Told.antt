@@ -11,7 +11,8 @@ use borrow.Author.Tests.{eqb-true, eq-eqb, ne-eqb}
 use Rattle.paper.specs.Bytes.{at, is, bytes, if_then_else_}
 use Rattle.paper.specs.Answer.{Answer, ok, refused, _>>=_, demand}
 use Rattle.paper.specs.Syntax.{integer, decimal, string}
-use Rattle.paper.specs.Tokens.{Token, name, literal, mark, end, is-end, escaped, reserved, Here}
+use Rattle.paper.specs.Tokens.{Token, name, literal, mark, end, escaped, reserved, Here}
+use Rattle.paper.specs.Reader.{is-end}
 use Rattle.paper.specs.Scanner.{Scanned, token, fault, meant, quoted, text, named, number, scan, next}
 use Rattle.theorems.proofs.Laws.Answers.{if-case}
 use Rattle.tokens.specs.declared.Kind.{Kind}

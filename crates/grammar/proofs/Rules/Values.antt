@@ -7,9 +7,9 @@ use mathlib.Core.List.{List}
 use lib.ListN.{length}
 use Rattle.paper.specs.Bytes.{bytes, if_then_else_}
 use Rattle.paper.specs.Answer.{ok, refused, _>>=_, demand}
-use Rattle.paper.specs.Tokens.{Token, name, literal, mark, end, is-name, is-word, member, reserved}
+use Rattle.paper.specs.Tokens.{Token, name, literal, mark, end, is-name, member, reserved}
 use Rattle.paper.specs.Scanner.{next}
-use Rattle.paper.specs.Reader.{expect-word, path}
+use Rattle.paper.specs.Reader.{expect-word, path, is-word}
 use Rattle.grammar.specs.Drafts.{draft-basic, draft-value}
 use Rattle.grammar.specs.Places.{here, Shown, Stood}
 use Rattle.grammar.specs.Seen.{NameSeen, WordIs, LiteralIs, SeenIs, OtherSeen}

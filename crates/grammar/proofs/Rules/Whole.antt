@@ -9,9 +9,10 @@ use lib.Seq.{drop-drop, drop-at}
 use borrow.Author.Tests.{le-leb, lt-leb, lt-ltb, le-ltb}
 use Rattle.paper.specs.Bytes.{if_then_else_}
 use Rattle.paper.specs.Answer.{Answer, ok, refused, _>>=_, demand}
-use Rattle.paper.specs.Tokens.{Here, is-end}
+use Rattle.paper.specs.Tokens.{Here}
+use Rattle.paper.specs.Reader.{is-end}
 use Rattle.paper.specs.Scanner.{next}
-use Rattle.paper.specs.Operations.{zeros, wiped}
+use Rattle.paper.specs.Lent.{zeros, wiped}
 use Rattle.theorems.proofs.Laws.Answers.{assoc}
 use Rattle.memory.specs.Memory.{stored}
 use Rattle.memory.proofs.Laws.{clear-wiped, length-zeros}

@@ -12,8 +12,8 @@ use lib.IntN.{ℤ}
 use Rattle.paper.specs.Bytes.{if_then_else_}
 use Rattle.paper.specs.Answer.{Answer, ok, refused, _>>=_}
 use Rattle.paper.specs.Syntax.{Path, Basic, integer, decimal, string}
-use Rattle.paper.specs.Tokens.{Token, name, literal, mark, end, blank, Here, past}
-use Rattle.paper.specs.Scanner.{Scanned, token, fault, gap, skip, scan, found, next}
+use Rattle.paper.specs.Tokens.{Token, name, literal, mark, end, blank, Here}
+use Rattle.paper.specs.Scanner.{Scanned, token, fault, gap, skip, scan, found, next, past}
 use Rattle.paper.specs.Reader.{expect, expect-word, names, path}
 use Rattle.theorems.proofs.Laws.Answers.{if-case}
 use Rattle.theorems.proofs.Laws.Gives.{Gives, gives, refuses, gives-bind, gives-demand, gives-ok}

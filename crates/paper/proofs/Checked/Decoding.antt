@@ -53,11 +53,17 @@ none-read : map changed (
 unfolding all
 none-read = refl
 
--- and those that are tables still: another integer, another name, a boolean, a component (with value 0), a vector
+-- and those that are tables still: another integer, another name, a boolean
 some-read : map changed ((32, 9) ∷ (41, 0x79) ∷ (24, 1) ∷ [])
     ≡ some (entry (bytes "x") (basic (integer (pos 9))) ∅) ∷ some (entry (bytes "y") (basic (integer (pos 1))) ∅) ∷ some (entry (bytes "x") (basic (boolean true)) ∅) ∷ []
 unfolding all
 some-read = refl
+
+-- with value 0 too: a component, a vector
+kinds-read : map (λ k. table-of (set (set one 24 k) 32 0)) (0 ∷ 7 ∷ [])
+    ≡ some (entry (bytes "x") (component ∅) ∅) ∷ some (entry (bytes "x") (basic (vector εⱽ)) ∅) ∷ []
+unfolding all
+kinds-read = refl
 
 -- a name twice, a reserved word for a name
 twice : (table-of (table (entry (bytes "x") (basic null) (entry (bytes "x") (basic null) ∅))) ≡ none) × (table-of (table (entry (bytes "DATA") (basic null) ∅)) ≡ none)

@@ -8,7 +8,7 @@ use mathlib.Core.Option.{some}
 use lib.ListN.{length, take, drop, length-append, length-drop, take-append-drop}
 use lib.Seq.{take-at, drop-at, length-take-le}
 use borrow.Author.Tests.{leb-true, eqb-true, le-leb, eq-eqb}
-use Rattle.paper.specs.Bytes.{empty}
+use Rattle.paper.specs.Scanner.{empty}
 use Rattle.paper.specs.Maybe.{_>>=_, require}
 use Rattle.paper.specs.Layout.{little, Row, row-bytes, texts, records, laid-out, row-text}
 use Rattle.paper.specs.Decoder.{Cursor, number-of, header, ended}

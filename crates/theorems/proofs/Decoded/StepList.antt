@@ -340,8 +340,7 @@ block-read b x d at h g e =
       laid-out = h .bytes ∙ rw (r₁, t₁, ← n) (sym (laid-out-headed 1 20 xs k));
       blocks = g .good;
       nested = omega (arith, g .few);
-      count = omega (arith, h .few);
-      text = rw (← t₁) (h .short);
+      listed = record { count = omega (arith, h .few); text = rw (← t₁) (h .short) };
     }
 
 pub block-sound : (b : List ℕ) → Found (IsStepList b) (block-of b)
@@ -607,8 +606,8 @@ steps-complete b d h =
     let fr : Front xs start stop = record { recs = sym (append-nil (records 0 xs)); text = sym (append-nil (texts xs)); pos = refl } in
     rw (
       e,
-      header-complete 1 20 1024 32768 (length xs) (records 0 xs) (texts xs) (omega arith) k (h .count) (omega arith) (h .text) (omega (arith, h .count, h .text)),
-      statements-back (2 * length (records 0 xs) + 2) 0 d start stop fr (omega (arith, h .text)) (omega (arith, h .count)) (h .blocks) (omega (arith, h .nested)) (empty-stops stop refl) (omega arith),
+      header-complete 1 20 1024 32768 (length xs) (records 0 xs) (texts xs) (omega arith) k (h .listed .count) (omega arith) (h .listed .text) (omega (arith, h .listed .count, h .listed .text)),
+      statements-back (2 * length (records 0 xs) + 2) 0 d start stop fr (omega (arith, h .listed .text)) (omega (arith, h .listed .count)) (h .blocks) (omega (arith, h .nested)) (empty-stops stop refl) (omega arith),
       ended-complete stop refl refl,
     )
 

@@ -258,9 +258,7 @@ table-sound b =
     found (record {
       laid-out = h .bytes ∙ rw (r₁, t₁, ← n) (sym (laid-out-headed 2 16 xs k));
       store = distinct-store (y .0) (g .good) u;
-      depth = g .deep;
-      nodes = omega (arith, h .few);
-      text = rw (← t₁) (h .short);
+      bounds = record { depth = g .deep; nodes = omega (arith, h .few); text = rw (← t₁) (h .short) };
     })))))
 
 -- ---- from a table to bytes
@@ -419,8 +417,8 @@ table-complete b s h =
     let fr : Front xs start stop = record { recs = sym (append-nil (records 0 xs)); text = sym (append-nil (texts xs)); pos = refl } in
     rw (
       e,
-      header-complete 2 16 1024 16384 (length xs) (records 0 xs) (texts xs) (omega arith) k (h .nodes) (omega arith) (h .text) (omega (arith, h .nodes, h .text)),
-      entries-complete (2 * length (records 0 xs) + 2) 1 s start stop fr (omega (arith, h .text)) (omega (arith, h .nodes)) (store-named s (h .store)) (h .depth) (omega arith),
+      header-complete 2 16 1024 16384 (length xs) (records 0 xs) (texts xs) (omega arith) k (h .bounds .nodes) (omega arith) (h .bounds .text) (omega (arith, h .bounds .nodes, h .bounds .text)),
+      entries-complete (2 * length (records 0 xs) + 2) 1 s start stop fr (omega (arith, h .bounds .text)) (omega (arith, h .bounds .nodes)) (store-named s (h .store)) (h .bounds .depth) (omega arith),
       ended-complete stop refl refl,
       store-distinct s (h .store),
     )
@@ -430,10 +428,6 @@ table-complete b s h =
 -- `table-of b` is s exactly when b is the table of s
 pub table-exact : (b : List ℕ) (s : Store) → (table-of b ≡ some s) ↔ IsTable b s
 table-exact b s = (λ e. found-some (table-sound b) e, table-complete b s)
-
--- so a store that is as it should be is read back from its table
-pub table-back : (s : Store) → IsStore s → deepest (rows 1 s) ≤ 32 → length (rows 1 s) ≤ 1024 → length (texts (rows 1 s)) ≤ 16384 → table-of (table s) ≡ some s
-table-back s h a b c = table-complete (table s) s (record { laid-out = refl; store = h; depth = a; nodes = b; text = c })
 
 -- two stores that are as they should be, with one table, are one
 pub table-injective : (s t : Store) (b : List ℕ) → IsTable b s → IsTable b t → s ≡ t

@@ -10,10 +10,9 @@ use lib.ListN.{length, take, drop, getD, length-append, length-drop, drop-of-len
 use lib.Seq.{drop-cons, drop-drop}
 use lib.Dec.{leb, ltb, eqb, eqb·zero-suc, eqb·suc-suc}
 use borrow.Author.Tests.{lt-ltb, eq-eqb, ne-eqb}
-use Rattle.paper.specs.Bytes.{empty}
 use Rattle.paper.specs.Maybe.{_>>=_, require}
 use Rattle.paper.specs.Tokens.{reserved, member}
-use Rattle.paper.specs.Scanner.{scan}
+use Rattle.paper.specs.Scanner.{scan, empty}
 use Rattle.paper.specs.Decoder.{Cursor, Raw, number-of, raw-of, record-at, field, one-name, name-of, names-of, path-of, long-of}
 use Rattle.theorems.proofs.Decoded.Parts.{Reads, exact-raw, raw-bytes, Narrow, length-little}
 use Rattle.theorems.proofs.Laws.Found.{Found, found}

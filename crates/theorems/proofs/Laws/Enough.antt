@@ -14,9 +14,9 @@ use borrow.Author.Tests.{ltb-true}
 use Rattle.paper.specs.Bytes.{if_then_else_, at}
 use Rattle.paper.specs.Answer.{Answer, refused}
 use Rattle.paper.specs.Syntax.{Basic}
-use Rattle.paper.specs.Tokens.{Token, name, literal, mark, end, starts, goes-on, Here, past, is-name, is-word, is-mark}
-use Rattle.paper.specs.Scanner.{Scanned, token, fault, gap, skip, scan, found, next, number, named, text, span}
-use Rattle.paper.specs.Reader.{expect, expect-word, names, path, word, basic-at, basics, statements, value, prototypes, read}
+use Rattle.paper.specs.Tokens.{Token, name, literal, mark, end, starts, goes-on, Here, is-name, is-mark}
+use Rattle.paper.specs.Scanner.{Scanned, token, fault, gap, skip, scan, found, next, number, named, text, span, past}
+use Rattle.paper.specs.Reader.{expect, expect-word, names, path, word, basic-at, basics, statements, value, prototypes, read, is-word}
 use Rattle.theorems.proofs.Laws.Answers.{if-case, All, holds, numbered, all-bind, all-demand}
 
 abbrev left : Here → ℕ

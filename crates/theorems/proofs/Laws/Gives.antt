@@ -23,6 +23,11 @@ pub gives-weaken : {X : Type 0} {Q Q′ : ℕ → Type 0} {P P′ : X → Type 0
 gives-weaken f g (gives {x} h) = gives (g x h)
 gives-weaken f g (refuses {n = n} q) = refuses (f n q)
 
+-- by what the answer is
+pub known : {X : Type 0} {Q : ℕ → Type 0} {P : X → Type 0} (m : Answer X) → ((x : X) → m ≡ ok x → P x) → ((n p : ℕ) → m ≡ refused n p → Q n) → Gives Q P m
+known (ok x) f g = gives (f x refl)
+known (refused n p) f g = refuses (g n p refl)
+
 pub gives-ok : {X : Type 0} {Q : ℕ → Type 0} {P : X → Type 0} {m : Answer X} {x : X} → Gives Q P m → m ≡ ok x → P x
 gives-ok {P = P} (gives {x = y} h) e = subst P (inside e) h
   where

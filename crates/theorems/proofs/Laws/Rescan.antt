@@ -10,10 +10,10 @@ use lib.Seq.{take-take, getD-take, take-nil, length-take-le, take-length}
 use lib.IntN.{ℤ}
 use lib.Dec.{ltb, eqb, lit≤}
 use borrow.Author.Tests.{ltb-true, ltb-false, leb-true, eqb-false, le-leb}
-use Rattle.paper.specs.Bytes.{if_then_else_, is, among, at, empty}
+use Rattle.paper.specs.Bytes.{if_then_else_, is, among, at}
 use Rattle.paper.specs.Syntax.{integer, decimal, string}
 use Rattle.paper.specs.Tokens.{name, literal, mark, end, in-range, starts, goes-on, digit}
-use Rattle.paper.specs.Scanner.{Scanned, token, fault, scan, number, named, text, digits-after, sign, whole, fraction, exponent, span}
+use Rattle.paper.specs.Scanner.{Scanned, token, fault, scan, number, named, text, digits-after, sign, whole, fraction, exponent, span, empty}
 use Rattle.theorems.proofs.Laws.Answers.{if-case}
 
 -- ---- what a token can be

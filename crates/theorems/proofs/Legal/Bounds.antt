@@ -13,19 +13,13 @@ use Rattle.paper.specs.Answer.{ok, refused}
 use Rattle.paper.specs.Syntax.{Name, Path, Basic, boolean, null, integer, decimal, string, reference, vector, Basics, εⱽ, _∷ⱽ_, Block, εᴮ, _∷ᴮ_, Statement, assign, Value, basic, link, extends, Prototypes, εᴾ, named, block}
 use Rattle.paper.specs.Store.{Store, ∅, entry, component, lookup, find, resolve, bind}
 use Rattle.paper.specs.Store as S
-use Rattle.paper.specs.Bounds.{bounded}
+use Rattle.paper.specs.Bounds.{Bounded, bounded}
 use Rattle.paper.specs.Bounds as Bounds
 use Rattle.paper.specs.Meaning.{copy, inherit, linked, B⟦_⟧, A⟦_⟧, V⟦_⟧, P⟦_⟧, main}
 use Rattle.paper.specs.Layout.{Field, number, text, Row, table-row, name-text, kind, content, elements, each, rows, value-rows, row-text, texts, deepest, table}
 use Rattle.paper.specs.WellFormed.{IsStore, IsValue, IsBlock, IsStatement, IsValueOf, ArePrototypes, IsTable}
 use Rattle.theorems.proofs.Laws.Gives.{Gives, gives, refuses, gives-bind, gives-demand, gives-ok, gives-refused}
 use Rattle.theorems.proofs.Legal.Names.{keeps}
-
--- within the bounds of a table
-pub record Bounded (s : Store) : Type 0 where
-  pub depth : deepest (rows 1 s) ≤ 32
-  pub nodes : length (rows 1 s) ≤ 1024
-  pub text : length (texts (rows 1 s)) ≤ 16384
 
 -- a refusal of a step has a number from 11 to 18: no target is the root itself (21)
 abbrev pub Stepping : ℕ → Type 0
@@ -97,10 +91,10 @@ pub record IsBounded (s : Store) : Type 0 where
   pub bounds : Bounded s
 
 pub of-table : {b : List ℕ} {s : Store} → IsTable b s → IsBounded s
-of-table h = record { store = h .store; bounds = record { depth = h .depth; nodes = h .nodes; text = h .text } }
+of-table h = record { store = h .store; bounds = h .bounds }
 
 pub to-table : {s : Store} → IsBounded s → IsTable (table s) s
-to-table h = record { laid-out = refl; store = h .store; depth = h .bounds .depth; nodes = h .bounds .nodes; text = h .bounds .text }
+to-table h = record { laid-out = refl; store = h .store; bounds = h .bounds }
 
 pub empty-bounded : IsBounded ∅
 unfolding rows deepest texts

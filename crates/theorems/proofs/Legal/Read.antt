@@ -10,13 +10,13 @@ use mathlib.Core.Option.{Option, none, some}
 use lib.ListN.{length, take, length-drop}
 use lib.Dec.{T, lit≤}
 use borrow.Author.Tests.{ltb-true, leb-true, not-true}
-use Rattle.paper.specs.Bytes.{empty}
 use Rattle.paper.specs.Answer.{Answer, ok, refused, _>>=_, demand}
-use Rattle.paper.specs.Syntax.{Path, Basic, boolean, null, integer, decimal, string, reference, vector, Basics, εⱽ, _∷ⱽ_, Block, εᴮ, _∷ᴮ_, assign, Value, basic, link, extends, Prototypes, εᴾ, named, block}
-use Rattle.paper.specs.Tokens.{Token, name, literal, mark, end, Here, past, is-name, spelling}
-use Rattle.paper.specs.Scanner.{Scanned, token, gap, skip, scan, found, next}
+use Rattle.paper.specs.Limits.{most-source, most-open}
+use Rattle.paper.specs.Syntax.{Path, Basic, boolean, null, integer, decimal, string, reference, vector, Basics, εⱽ, _∷ⱽ_, Block, εᴮ, _∷ᴮ_, Statement, assign, Value, basic, link, extends, Prototypes, εᴾ, named, block}
+use Rattle.paper.specs.Tokens.{Token, name, literal, mark, end, Here, is-name}
+use Rattle.paper.specs.Scanner.{Scanned, token, gap, skip, scan, found, next, empty, past}
 use Rattle.paper.specs.Grammar.{brackets, brackets-in, openings, openings-v, openings-p, Some}
-use Rattle.paper.specs.Reader.{expect, expect-word, names, path, word, basic-at, basics, statements, value, prototypes, read}
+use Rattle.paper.specs.Reader.{expect, expect-word, names, path, word, basic-at, basics, statements, value, prototypes, read, spelling}
 use Rattle.paper.specs.Steps.{steps}
 use Rattle.paper.specs.StepLayout.{step-list, listed}
 use Rattle.paper.specs.WellFormed.{IsName, AreNames, IsPath, IsBasic, AreBasic, IsBlock, IsValueOf, ArePrototypes, IsStepList}
@@ -99,13 +99,33 @@ is-name-name (literal b) g e = absurd (false≢true e)
 is-name-name (mark m) g e = absurd (false≢true e)
 is-name-name end g e = absurd (false≢true e)
 
+-- ---- places: every one of a block's is at most N
+
+abbrev mutual
+  pub Within : ℕ → Block → Type 0
+  Within N εᴮ = Unit {0}
+  Within N (a ∷ᴮ b) = WithinStatement N a × Within N b
+
+  pub WithinStatement : ℕ → Statement → Type 0
+  WithinStatement N (assign r v) = WithinValue N v
+
+  pub WithinValue : ℕ → Value → Type 0
+  WithinValue N (basic p b) = p ≤ N
+  WithinValue N (link p r) = p ≤ N
+  WithinValue N (extends p ps) = (p ≤ N) × WithinPrototypes N ps
+
+  pub WithinPrototypes : ℕ → Prototypes → Type 0
+  WithinPrototypes N εᴾ = Unit {0}
+  WithinPrototypes N (named p r ps) = (p ≤ N) × WithinPrototypes N ps
+  WithinPrototypes N (block b ps) = Within N b × WithinPrototypes N ps
+
 -- ---- readers
 
 record Read {A : Type 0} (P : A → Type 0) (N : ℕ) (x : A × Here) : Type 0 where
   good : P (x .0)
   after : In N (x .1)
 
-module _ (N : ℕ) (small : N ≤ 32768) where
+module _ (N : ℕ) (small : N ≤ most-source) where
   expect-in : (c : Char) (h : Here) → In N h → Gives Low (In N) (expect c h)
   unfolding expect
   expect-in c h i = gives-bind _ (next-in N h i) (λ x g. gives-demand _ 3 _ _ (omega arith) (λ e. gives (g .after)))
@@ -205,15 +225,18 @@ module _ (N : ℕ) (small : N ≤ 32768) where
   record Blockly (d : ℕ) (b : Block) : Type 0 where
     good : IsBlock b
     few : openings b ≤ d
+    there : Within N b
 
   record Valuely (d : ℕ) (v : Value) : Type 0 where
     good : IsValueOf v
     few : openings-v v ≤ d
+    there : WithinValue N v
 
   record Prototypely (d : ℕ) (ps : Prototypes) : Type 0 where
     some : Some ps
     good : ArePrototypes ps
     few : openings-p ps ≤ d
+    there : WithinPrototypes N ps
 
   mutual
     unfolding statements
@@ -224,33 +247,34 @@ module _ (N : ℕ) (small : N ≤ 32768) where
         gives-bind _ (next-in N h i) (λ x g.
         if-case (Gives Low (Read (Blockly d) N)) _ _ _
         (λ e.
-        let p : x .1 .place < 32768 = omega (arith, g .placed e) in
         gives-bind _ (path-in h i) (λ r a.
-        gives-bind _ (value-in f d (x .1 .place) (r .1) p (a .after)) (λ v b.
+        gives-bind _ (value-in f d (x .1 .place) (r .1) (g .placed e) (a .after)) (λ v b.
         gives-bind _ (statements-in f d (v .1) (b .after)) (λ s c.
-        gives {x = (assign (r .0) (v .0) ∷ᴮ s .0, s .1)} (record { good = record { good = ((a .good, b .good .good), c .good .good); few = omega (arith, b .good .few, c .good .few) }; after = c .after })))))
-        (λ _. gives {x = (εᴮ, h)} (record { good = record { good = tt; few = omega arith }; after = i })))
+        gives {x = (assign (r .0) (v .0) ∷ᴮ s .0, s .1)} (record { good = record { good = ((a .good, b .good .good), c .good .good); few = omega (arith, b .good .few, c .good .few); there = (b .good .there, c .good .there) }; after = c .after })))))
+        (λ _. gives {x = (εᴮ, h)} (record { good = record { good = tt; few = omega arith; there = tt }; after = i })))
 
-    value-in : (f d p : ℕ) (h : Here) → p < 32768 → In N h → Gives Low (Read (Valuely d) N) (value f d p h)
+    value-in : (f d p : ℕ) (h : Here) → p < N → In N h → Gives Low (Read (Valuely d) N) (value f d p h)
     value-in zero d p h lp i = refuses (lit≤ tt)
     value-in (suc f) d p h lp i =
+        let small-p : p < most-source = omega (arith, small) in
+        let near-p : p ≤ N = omega arith in
         gives-bind _ (next-in N h i) (λ x g.
         if-case (Gives Low (Read (Valuely d) N)) _ _ _
         (λ _.
         gives-bind _ (expect-word-in "extends" h i) (λ a j.
         gives-bind _ (prototypes-in f d a j) (λ ps b.
-        gives {x = (extends p (ps .0), ps .1)} (record { good = record { good = (lp, b .good .some, b .good .good); few = b .good .few }; after = b .after }))))
+        gives {x = (extends p (ps .0), ps .1)} (record { good = record { good = (small-p, b .good .some, b .good .good); few = b .good .few; there = (near-p, b .good .there) }; after = b .after }))))
         (λ _.
         if-case (Gives Low (Read (Valuely d) N)) _ _ _
         (λ e.
-        let q : x .1 .place < 32768 = omega (arith, g .placed e) in
+        let q : x .1 .place < most-source = omega (arith, g .placed e) in
         gives-bind _ (path-in h i) (λ r a.
         gives-bind _ (expect-in ";" (r .1) (a .after)) (λ k j.
-        gives {x = (link (x .1 .place) (r .0), k)} (record { good = record { good = (q, a .good); few = omega arith }; after = j }))))
+        gives {x = (link (x .1 .place) (r .0), k)} (record { good = record { good = (q, a .good); few = omega arith; there = omega (arith, g .placed e) }; after = j }))))
         (λ _.
         gives-bind _ (basic-in f d h i) (λ r a.
         gives-bind _ (expect-in ";" (r .1) (a .after)) (λ k j.
-        gives {x = (basic p (r .0), k)} (record { good = record { good = (lp, a .good .good); few = a .good .few }; after = j }))))))
+        gives {x = (basic p (r .0), k)} (record { good = record { good = (small-p, a .good .good); few = a .good .few; there = near-p }; after = j }))))))
 
     prototypes-in : (f d : ℕ) (h : Here) → In N h → Gives Low (Read (Prototypely d) N) (prototypes f d h)
     prototypes-in zero d h i = refuses (lit≤ tt)
@@ -258,17 +282,18 @@ module _ (N : ℕ) (small : N ≤ 32768) where
         gives-bind _ (next-in N h i) (λ x g.
         if-case (Gives Low (Read (Prototypely d) N)) _ _ _
         (λ e.
-        let q : x .1 .place < 32768 = omega (arith, g .placed e) in
+        let q : x .1 .place < most-source = omega (arith, g .placed e) in
+        let near : x .1 .place ≤ N = omega (arith, g .placed e) in
         gives-bind _ (path-in h i) (λ r a.
         gives-bind _ (next-in N (r .1) (a .after)) (λ y _.
         if-case (Gives Low (Read (Prototypely d) N)) _ _ _
         (λ _.
         gives-bind _ (expect-in "," (r .1) (a .after)) (λ k j.
         gives-bind _ (prototypes-in f d k j) (λ ps c.
-        gives {x = (named (x .1 .place) (r .0) (ps .0), ps .1)} (record { good = record { some = tt; good = (q, a .good, c .good .good); few = c .good .few }; after = c .after }))))
+        gives {x = (named (x .1 .place) (r .0) (ps .0), ps .1)} (record { good = record { some = tt; good = (q, a .good, c .good .good); few = c .good .few; there = (near, c .good .there) }; after = c .after }))))
         (λ _.
         gives-bind _ (expect-in ";" (r .1) (a .after)) (λ k j.
-        gives {x = (named (x .1 .place) (r .0) εᴾ, k)} (record { good = record { some = tt; good = (q, a .good, tt); few = omega arith }; after = j }))))))
+        gives {x = (named (x .1 .place) (r .0) εᴾ, k)} (record { good = record { some = tt; good = (q, a .good, tt); few = omega arith; there = (near, tt) }; after = j }))))))
         (λ _.
         gives-bind _ (expect-in "{" h i) (λ k j.
         gives-demand _ 5 _ _ (omega arith) (λ e₁.
@@ -280,28 +305,36 @@ module _ (N : ℕ) (small : N ≤ 32768) where
         (λ _.
         gives-bind _ (expect-in "," m n) (λ o q.
         gives-bind _ (prototypes-in f d o q) (λ ps u.
-        gives {x = (block (b .0) (ps .0), ps .1)} (record { good = record { some = tt; good = (c .good .good, u .good .good); few = omega (arith, c .good .few, u .good .few) }; after = u .after }))))
+        gives {x = (block (b .0) (ps .0), ps .1)} (record { good = record { some = tt; good = (c .good .good, u .good .good); few = omega (arith, c .good .few, u .good .few); there = (c .good .there, u .good .there) }; after = u .after }))))
         (λ _.
-        gives {x = (block (b .0) εᴾ, m)} (record { good = record { some = tt; good = (c .good .good, tt); few = omega (arith, c .good .few) }; after = n })))))))))
+        gives {x = (block (b .0) εᴾ, m)} (record { good = record { some = tt; good = (c .good .good, tt); few = omega (arith, c .good .few); there = (c .good .there, tt) }; after = n })))))))))
 
 -- ---- the theorems
 
 pub record WellRead (b : Block) : Type 0 where
   pub blocks : IsBlock b
-  pub nested : openings b ≤ 32
+  pub nested : openings b ≤ most-open
 
-read-in : (source : List ℕ) → Gives Low WellRead (read source)
+-- and every place of it is in the source
+record ReadFrom (source : List ℕ) (b : Block) : Type 0 where
+  well : WellRead b
+  there : Within (length source) b
+
+read-in : (source : List ℕ) → Gives Low (ReadFrom source) (read source)
 unfolding read
 read-in source =
     gives-demand _ 1 _ _ (omega arith) (λ e.
-    let l = leb-true (length source) 32768 e in
+    let l = leb-true (length source) most-source e in
     gives-bind _ (statements-in (length source) l (2 * length source + 2) 32 (record { place = 0; rest = source }) (record { ends = omega arith })) (λ b g.
     gives-bind _ (next-in (length source) (b .1) (g .after)) (λ y _.
-    gives-demand _ 3 _ _ (omega arith) (λ _. gives {x = b .0} (record { blocks = g .good .good; nested = g .good .few })))))
+    gives-demand _ 3 _ _ (omega arith) (λ _. gives {x = b .0} (record { well = record { blocks = g .good .good; nested = g .good .few }; there = g .good .there })))))
 
 -- what is read is well-formed
 pub read-well : (source : List ℕ) (b : Block) → read source ≡ ok b → WellRead b
-read-well source b e = gives-ok (read-in source) e
+read-well source b e = gives-ok (read-in source) e .well
+
+pub read-there : (source : List ℕ) (b : Block) → read source ≡ ok b → Within (length source) b
+read-there source b e = gives-ok (read-in source) e .there
 
 -- what is translated is the step list of what is read
 pub record Translated (source bytes : List ℕ) : Type 0 where
@@ -316,8 +349,8 @@ Translating n = (1 ≤ n) × (n ≤ 7)
 numbered-read : (source : List ℕ) → Gives Translating WellRead (read source)
 numbered-read source = go (read source) refl (read-in source)
   where
-    go : (m : Answer Block) → read source ≡ m → Gives Low WellRead m → Gives Translating WellRead m
-    go m e (gives h) = gives h
+    go : (m : Answer Block) → read source ≡ m → Gives Low (ReadFrom source) m → Gives Translating WellRead m
+    go m e (gives h) = gives (h .well)
     go m e (refuses {n = zero} {p = p} l) = absurd (enough source p e)
     go m e (refuses {n = suc n} l) = refuses {n = suc n} (omega arith, omega arith)
 
@@ -332,7 +365,7 @@ translate-in source = go (read source) refl (numbered-read source)
         gives {x = step-list (steps b)} (record {
           meant = b;
           is-read = e;
-          is-listed = record { laid-out = refl; blocks = w .blocks; nested = w .nested; count = leb-true _ _ e₁; text = leb-true _ _ e₂ };
+          is-listed = record { laid-out = refl; blocks = w .blocks; nested = w .nested; listed = record { count = leb-true _ _ e₁; text = leb-true _ _ e₂ } };
         })))
 
 pub translate-well : (source bytes : List ℕ) → translate source ≡ ok bytes → Translated source bytes

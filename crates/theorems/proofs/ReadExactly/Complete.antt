@@ -13,11 +13,11 @@ use borrow.Author.Tests.{eq-eqb, lt-ltb, le-leb}
 use Rattle.paper.specs.Bytes.{if_then_else_, bytes, same}
 use Rattle.paper.specs.Answer.{Answer, ok, refused, _>>=_, demand}
 use Rattle.paper.specs.Syntax.{Path, Basic, boolean, null, integer, decimal, string, reference, vector, Basics, εⱽ, _∷ⱽ_, Block, εᴮ, _∷ᴮ_, assign, Value, basic, link, extends, Prototypes, εᴾ, named, block}
-use Rattle.paper.specs.Tokens.{Token, name, mark, end, reserved, member, Here, is-name, is-word, is-mark, is-end, spelling}
+use Rattle.paper.specs.Tokens.{Token, name, mark, end, reserved, member, Here, is-name, is-mark}
 use Rattle.paper.specs.Scanner.{next}
 use Rattle.paper.specs.Grammar.{brackets, brackets-in, openings, openings-v, openings-p, Spelt, sign, word, spell-path, spell-basic, spell-basics, target, then-prototypes, spell, spell-statement, spell-value, spell-prototypes, Free, Some, Legal}
 use Rattle.paper.specs.Described.{Sits}
-use Rattle.paper.specs.Reader.{expect, expect-word, names, path, basic-at, basics, statements, value, prototypes, read}
+use Rattle.paper.specs.Reader.{expect, expect-word, names, path, basic-at, basics, statements, value, prototypes, read, is-word, is-end, spelling}
 use Rattle.paper.specs.Reader as G
 use Rattle.theorems.proofs.Laws.Enough.{enough}
 use Rattle.theorems.proofs.ReadExactly.Printed.{LegalBasic, LegalBasics, LegalValue, LegalPrototypes, Reference32}

@@ -11,11 +11,11 @@ use lib.ListN.{length}
 use Rattle.paper.specs.Bytes.{if_then_else_}
 use Rattle.paper.specs.Answer.{Answer, ok, refused, _>>=_}
 use Rattle.paper.specs.Syntax.{Path, Basic, boolean, null, integer, decimal, string, reference, vector, Basics, εⱽ, _∷ⱽ_, Block, εᴮ, _∷ᴮ_, assign, Value, basic, link, extends, Prototypes, εᴾ, named, block}
-use Rattle.paper.specs.Tokens.{Token, end, reserved, member, Here, is-name, is-word, is-mark, is-end}
+use Rattle.paper.specs.Tokens.{Token, end, reserved, member, Here, is-name, is-mark}
 use Rattle.paper.specs.Scanner.{next}
 use Rattle.paper.specs.Grammar.{Spelt, sign, word, spell-path, then-basics, spell-basic, spell-basics, target, then-prototypes, spell, spell-statement, spell-value, spell-prototypes, plain, Free, Some, Formed}
 use Rattle.paper.specs.Described.{start}
-use Rattle.paper.specs.Reader.{expect, expect-word, names, path, basic-at, basics, statements, value, prototypes, read}
+use Rattle.paper.specs.Reader.{expect, expect-word, names, path, basic-at, basics, statements, value, prototypes, read, is-word, is-end}
 use Rattle.paper.specs.Reader as G
 use Rattle.theorems.proofs.Laws.Answers.{if-case}
 use Rattle.theorems.proofs.ReadExactly.Complete.{mark-self, word-self, name-free, name-no-word}

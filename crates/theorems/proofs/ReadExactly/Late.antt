@@ -10,8 +10,8 @@ use mathlib.Core.Option.{Option, none, some}
 use lib.ListN.{length}
 use Rattle.paper.specs.Answer.{Answer, ok, refused, _>>=_, demand}
 use Rattle.paper.specs.Syntax.{Basic}
-use Rattle.paper.specs.Tokens.{Token, name, literal, mark, end, Here, past}
-use Rattle.paper.specs.Scanner.{Scanned, token, fault, gap, skip, scan, found, next}
+use Rattle.paper.specs.Tokens.{Token, name, literal, mark, end, Here}
+use Rattle.paper.specs.Scanner.{Scanned, token, fault, gap, skip, scan, found, next, past}
 use Rattle.paper.specs.Reader.{expect, expect-word, names, path, word, basic-at, basics, statements, value, prototypes}
 use Rattle.theorems.proofs.Laws.Answers.{if-case}
 use Rattle.theorems.proofs.Laws.Enough.{ScanGood, ended, some-bytes, faulty, scan-good}

@@ -10,7 +10,8 @@ use lib.ListN.{length}
 use borrow.Author.Tests.{not-true}
 use Rattle.paper.specs.Bytes.{bytes}
 use Rattle.paper.specs.Syntax.{Path, Basic}
-use Rattle.paper.specs.Tokens.{Token, name, literal, mark, end, reserved, member, is-name, is-mark, is-end, spelling}
+use Rattle.paper.specs.Tokens.{Token, name, literal, mark, end, reserved, member, is-name, is-mark}
+use Rattle.paper.specs.Reader.{is-end, spelling}
 use Rattle.paper.specs.Grammar.{Free}
 use Rattle.paper.specs.Described.{Begins, counted, opens, closes, Open, joined, Joined, Fault, cannot, opening, another-name}
 use Rattle.theorems.proofs.ReadExactly.Complete.{name-free}

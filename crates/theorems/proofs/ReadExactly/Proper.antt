@@ -5,7 +5,8 @@ use mathlib.Core.Bool.{true, false, true≢false}
 use mathlib.Core.List.{List, [], _∷_, _++_}
 use mathlib.Core.Option.{Option, none, some}
 use Rattle.paper.specs.Syntax.{Path, Basic, boolean, null, integer, decimal, string, reference, vector, Basics, εⱽ, _∷ⱽ_, Block, εᴮ, _∷ᴮ_, Statement, assign, Value, basic, link, extends, Prototypes, εᴾ, named, block}
-use Rattle.paper.specs.Tokens.{Token, name, literal, mark, end, is-end}
+use Rattle.paper.specs.Tokens.{Token, name, literal, mark, end}
+use Rattle.paper.specs.Reader.{is-end}
 use Rattle.paper.specs.Grammar.{Spelt, spell-path, then-basics, spell-basic, spell-basics, target, then-prototypes, spell, spell-statement, spell-value, spell-prototypes}
 
 abbrev pub Proper : List Spelt → Type 0

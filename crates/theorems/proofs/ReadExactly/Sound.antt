@@ -12,11 +12,11 @@ use borrow.Author.Tests.{eqb-true}
 use Rattle.paper.specs.Bytes.{bytes, same}
 use Rattle.paper.specs.Answer.{Answer, ok, refused}
 use Rattle.paper.specs.Syntax.{Path, Basic, boolean, null, reference, vector, Basics, εⱽ, _∷ⱽ_, Block, εᴮ, _∷ᴮ_, assign, Value, basic, link, extends, Prototypes, εᴾ, named, block}
-use Rattle.paper.specs.Tokens.{Token, name, literal, mark, end, Here, is-name, is-word, is-mark, is-end, spelling}
+use Rattle.paper.specs.Tokens.{Token, name, literal, mark, end, Here, is-name, is-mark}
 use Rattle.paper.specs.Scanner.{Scanned, skip, scan, found, next}
 use Rattle.paper.specs.Grammar.{Spelt, sign, word, then-names, spell-path, then-basics, spell-basic, spell-basics, target, then-prototypes, spell, spell-value, spell-prototypes}
 use Rattle.paper.specs.Described.{Sits, start}
-use Rattle.paper.specs.Reader.{expect, expect-word, names, path, basic-at, basics, statements, value, prototypes, read}
+use Rattle.paper.specs.Reader.{expect, expect-word, names, path, basic-at, basics, statements, value, prototypes, read, is-word, is-end, spelling}
 use Rattle.paper.specs.Reader as G
 use Rattle.theorems.proofs.Laws.Answers.{if-case}
 use Rattle.theorems.proofs.Laws.Gives.{Gives, gives, refuses, gives-bind, gives-demand, gives-ok}

@@ -14,10 +14,10 @@ use borrow.Author.Tests.{le-leb, ltb-true, ltb-false}
 use Rattle.paper.specs.Bytes.{bytes}
 use Rattle.paper.specs.Answer.{Answer, ok, refused, _>>=_, demand}
 use Rattle.paper.specs.Syntax.{Path, Basic, boolean, null, integer, decimal, string, reference, vector, Basics, εⱽ, _∷ⱽ_, Block, εᴮ, _∷ᴮ_, assign, Value, basic, link, extends, Prototypes, εᴾ, named, block}
-use Rattle.paper.specs.Tokens.{Token, name, literal, mark, end, reserved, member, Here, is-name, is-mark, spelling}
+use Rattle.paper.specs.Tokens.{Token, name, literal, mark, end, reserved, member, Here, is-name, is-mark}
 use Rattle.paper.specs.Scanner.{next}
 use Rattle.paper.specs.Grammar.{Spelt, sign, word, then-names, spell-path, then-basics, spell-basic, spell-basics, target, then-prototypes, spell, spell-value, spell-prototypes, Some, Formed}
-use Rattle.paper.specs.Reader.{expect, expect-word, names, path, basic-at, basics, statements, value, prototypes, read}
+use Rattle.paper.specs.Reader.{expect, expect-word, names, path, basic-at, basics, statements, value, prototypes, read, spelling}
 use Rattle.paper.specs.Reader as G
 use Rattle.paper.specs.Described.{opens, start}
 use Rattle.theorems.proofs.Laws.Answers.{if-case}

@@ -11,8 +11,8 @@ use lib.Dec.{eqb}
 use borrow.Author.Tests.{eqb-true, not-false}
 use Rattle.paper.specs.Bytes.{if_then_else_, bytes, at, is}
 use Rattle.paper.specs.Answer.{Answer, ok, refused}
-use Rattle.paper.specs.Tokens.{blank, Here, past}
-use Rattle.paper.specs.Scanner.{span, closing, gap, skip}
+use Rattle.paper.specs.Tokens.{blank, Here}
+use Rattle.paper.specs.Scanner.{span, closing, gap, skip, past}
 use Rattle.paper.specs.Written.{Each, no-more, one-more, no-LF, Unclosed, LineEnd, at-LF, at-end, Skipped, nothing, a-blank, a-line, a-comment, Settled}
 use Rattle.theorems.proofs.Scanned.Classes.{and-left, and-right, is-false}
 

@@ -16,7 +16,8 @@ use Rattle.paper.specs.Reader.{read}
 use Rattle.paper.specs.Layout.{texts, laid-out}
 use Rattle.paper.specs.Steps.{Step, steps}
 use Rattle.paper.specs.StepLayout.{all-rows, step-list, listed}
-use Rattle.paper.specs.Operations.{zeros, wiped, cleared, told, written, translated, Outcome, translates}
+use Rattle.paper.specs.Operations.{translated, translates}
+use Rattle.paper.specs.Lent.{zeros, wiped, cleared, told, written, Outcome}
 use Rattle.paper.specs.Operations as operations
 use Rattle.theorems.proofs.Legal.Read.{translate-numbers}
 use Rattle.theorems.proofs.Laws.Gives.{Gives, gives, refuses, gives-demand, gives-ok}

@@ -9,9 +9,9 @@ use lib.ListN.{length, take, drop, set, length-append, length-set, drop-of-lengt
 use Rattle.paper.specs.Bytes.{if_then_else_}
 use Rattle.paper.specs.Answer.{Answer, ok, refused, _>>=_, demand}
 use Rattle.paper.specs.Syntax.{Path}
-use Rattle.paper.specs.Tokens.{Token, name, literal, mark, end, is-name, is-mark, spelling, Here}
+use Rattle.paper.specs.Tokens.{Token, name, literal, mark, end, is-name, is-mark, Here}
 use Rattle.paper.specs.Scanner.{next, skip, found, scan}
-use Rattle.paper.specs.Reader.{expect, names, path}
+use Rattle.paper.specs.Reader.{expect, names, path, spelling}
 use Rattle.paper.specs.Layout.{name-text, names-text, path-text}
 use Rattle.theorems.proofs.Laws.Answers.{if-case}
 use Rattle.theorems.proofs.Laws.Gives.{Gives, gives, refuses, gives-bind, gives-demand, gives-ok}

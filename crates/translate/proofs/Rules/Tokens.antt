@@ -13,8 +13,8 @@ use borrow.Author.Tests.{eqb-true, eqb-false, eq-eqb, ne-eqb, le-leb}
 use Rattle.paper.specs.Bytes.{at, is, between, if_then_else_}
 use Rattle.paper.specs.Answer.{Answer, ok, refused, _>>=_}
 use Rattle.paper.specs.Syntax.{Basic, decimal, string}
-use Rattle.paper.specs.Tokens.{Token, name, literal, mark, end, is-name, is-mark, Here, past, blank, digit}
-use Rattle.paper.specs.Scanner.{Scanned, token, next, skip, found, scan, gap}
+use Rattle.paper.specs.Tokens.{Token, name, literal, mark, end, is-name, is-mark, Here, blank, digit}
+use Rattle.paper.specs.Scanner.{Scanned, token, next, skip, found, scan, gap, past}
 use Rattle.paper.specs.Layout.{little, long-text}
 use Rattle.theorems.proofs.Decoded.Parts.{length-little}
 use Rattle.theorems.proofs.Scanned.Classes.{outside-among}

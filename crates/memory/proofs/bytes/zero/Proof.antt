@@ -6,7 +6,7 @@ use mathlib.Core.Path.{_≡_, refl, sym, _∙_}
 use lib.ListN.{length, length-set}
 use lib.Seq.{sets}
 use borrow.Author.Needs.{needs}
-use Rattle.paper.specs.Operations.{zeros}
+use Rattle.paper.specs.Lent.{zeros}
 use Rattle.memory.proofs.Laws.{length-zeros, stored-out, stored-sets}
 use Rattle.memory.proofs.Turns.{turn, zeros-left}
 use Rattle.memory.proofs.bytes.zero.Statement.{statement}

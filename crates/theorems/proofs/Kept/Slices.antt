@@ -4,38 +4,32 @@ use native.Mathlib.Omega.{arith}
 use mathlib.Core.Path.{_≡_, refl}
 use mathlib.Core.Bool.{Bool, true, false}
 use mathlib.Core.List.{List, [], _∷_, map}
-use lib.ListN.{length, drop, length-append, length-drop, length-replicate}
+use lib.ListN.{length, length-append, length-drop}
 use lib.Dec.{eqb}
 use Rattle.paper.specs.Answer.{Answer, ok, refused}
-use Rattle.paper.specs.Operations.{translate-op, run-op, resolve-op, written, zeros, wiped, cleared, Outcome, translates, runs, takes-main, resolves}
+use Rattle.paper.specs.Operations.{translate-op, run-op, resolve-op, translates, runs, takes-main, resolves}
+use Rattle.paper.specs.Lent.{written, cleared, Outcome}
 use Rattle.theorems.proofs.Decoded.StepList.{steps-length}
 use Rattle.theorems.proofs.Decoded.Table.{table-length}
 use Rattle.theorems.proofs.Demands.Answers.{SomeSteps, SomeTable, translate-gives, run-gives, main-gives, resolve-gives}
 use Rattle.theorems.proofs.Laws.Gives.{Gives, gives-ok}
-use Rattle.theorems.proofs.Demands.Order.{Lent, short, long, translate-lent, run-lent, main-lent, resolve-lent}
+use Rattle.theorems.proofs.Laws.Wiped.{wiped-length}
+use Rattle.theorems.proofs.Demands.Order.{Split, short, long, translate-split, run-split, main-split, resolve-split}
 
 -- ---- what is given fits its slice
 
 steps-fit : (b : List ℕ) → SomeSteps b → length b ≤ 53272
-steps-fit b h = omega (arith, steps-length (h .is-listed), h .is-listed .count, h .is-listed .text)
+steps-fit b h = omega (arith, steps-length (h .is-listed), h .is-listed .listed .count, h .is-listed .listed .text)
 
 table-fit : (b : List ℕ) → SomeTable b → length b ≤ 32792
-table-fit b h = omega (arith, table-length (h .is-table), h .is-table .nodes, h .is-table .text)
+table-fit b h = omega (arith, table-length (h .is-table), h .is-table .bounds .nodes, h .is-table .bounds .text)
 
 written-length : (a : Answer (List ℕ)) (output : List ℕ) → ((b : List ℕ) → a ≡ ok b → length b ≤ length output) → length (written a output) ≡ length output
 unfolding written
 written-length (ok b) output h = let l = h b refl in simp (length-append, length-drop) (omega arith)
 written-length (refused n p) output h = refl
 
-zeros-length : (n : ℕ) → length (zeros n) ≡ n
-unfolding zeros
-zeros-length n = length-replicate {A = ℕ} n 0
-
-wiped-length : (w : List ℕ) → 65536 ≤ length w → length (wiped w) ≡ length w
-unfolding wiped
-wiped-length w l = rw (length-append (zeros 65536) (drop 65536 w), zeros-length 65536, length-drop 65536 w) (omega arith)
-
-cleared-length : {L : Type 0} {rest a : Answer (List ℕ)} (w : List ℕ) → Lent L rest a → (L → 65536 ≤ length w) → length (cleared a w) ≡ length w
+cleared-length : {L : Type 0} {rest a : Answer (List ℕ)} (w : List ℕ) → Split L rest a → (L → 65536 ≤ length w) → length (cleared a w) ≡ length w
 unfolding cleared
 cleared-length w (short k) h = refl
 cleared-length {rest = rest} w (long l) h = go rest (h l)
@@ -48,7 +42,7 @@ cleared-length {rest = rest} w (long l) h = go rest (h l)
         by true e = rw (e, cleared)
         by false e = rw (e, cleared) (wiped-length w m)
 
-fits : {L : Type 0} {rest a : Answer (List ℕ)} {Q : ℕ → Type 0} {P : List ℕ → Type 0} (n o : ℕ) → Lent L rest a → (L → n ≤ o) → Gives Q P a → ((b : List ℕ) → P b → length b ≤ n) → (b : List ℕ) → a ≡ ok b → length b ≤ o
+fits : {L : Type 0} {rest a : Answer (List ℕ)} {Q : ℕ → Type 0} {P : List ℕ → Type 0} (n o : ℕ) → Split L rest a → (L → n ≤ o) → Gives Q P rest → ((b : List ℕ) → P b → length b ≤ n) → (b : List ℕ) → a ≡ ok b → length b ≤ o
 fits n o (short k) h g f b e = let z : _≡_ {A = ℕ} 0 1 = cc in absurd (omega arith)
 fits n o (long l) h g f b e = omega (arith, h l, f b (gives-ok g e))
 
@@ -60,31 +54,31 @@ pub record Kept (x : Outcome) (out : List ℕ) (work : List (List ℕ)) : Type 0
 pub translates-kept : (source output work : List ℕ) → Kept (translates source output work) output (work ∷ [])
 unfolding translates
 translates-kept source output work =
-    let k = translate-lent source (length output) (length work) in
+    let k = translate-split source (length output) (length work) in
     let a = translate-op source (length output) (length work) in
     let c₁ : length (cleared a work) ≡ length work = cleared-length work k (λ l. l .1 .0) in
-    record { output = written-length _ output (fits 53272 (length output) k (λ l. l .0) (translate-gives source (length output) (length work)) steps-fit); works = rw c₁ }
+    record { output = written-length _ output (fits 53272 (length output) k (λ l. l .0) (translate-gives source) steps-fit); works = rw c₁ }
 
 pub runs-kept : (list start output work₁ work₂ : List ℕ) → Kept (runs list start output work₁ work₂) output (work₁ ∷ work₂ ∷ [])
 unfolding runs
 runs-kept list start output work₁ work₂ =
-    let k = run-lent list start (length output) (length work₁) (length work₂) in
+    let k = run-split list start (length output) (length work₁) (length work₂) in
     let a = run-op list start (length output) (length work₁) (length work₂) in
     let c₁ : length (cleared a work₁) ≡ length work₁ = cleared-length work₁ k (λ l. l .1 .0) in
     let c₂ : length (cleared a work₂) ≡ length work₂ = cleared-length work₂ k (λ l. l .1 .1 .0) in
-    record { output = written-length _ output (fits 32792 (length output) k (λ l. l .0) (run-gives list start (length output) (length work₁) (length work₂)) table-fit); works = rw (c₁, c₂) }
+    record { output = written-length _ output (fits 32792 (length output) k (λ l. l .0) (run-gives list start) table-fit); works = rw (c₁, c₂) }
 
 pub main-kept : (whole output : List ℕ) → Kept (takes-main whole output) output []
 unfolding takes-main
 main-kept whole output =
-    record { output = written-length _ output (fits 32792 (length output) (main-lent whole (length output)) (λ l. l .0) (main-gives whole (length output)) table-fit); works = refl }
+    record { output = written-length _ output (fits 32792 (length output) (main-split whole (length output)) (λ l. l .0) (main-gives whole) table-fit); works = refl }
 
 pub resolves-kept : (source output work₁ work₂ work₃ : List ℕ) → Kept (resolves source output work₁ work₂ work₃) output (work₁ ∷ work₂ ∷ work₃ ∷ [])
 unfolding resolves
 resolves-kept source output work₁ work₂ work₃ =
-    let k = resolve-lent source (length output) (length work₁) (length work₂) (length work₃) in
+    let k = resolve-split source (length output) (length work₁) (length work₂) (length work₃) in
     let a = resolve-op source (length output) (length work₁) (length work₂) (length work₃) in
     let c₁ : length (cleared a work₁) ≡ length work₁ = cleared-length work₁ k (λ l. l .1 .0) in
     let c₂ : length (cleared a work₂) ≡ length work₂ = cleared-length work₂ k (λ l. l .1 .1 .0) in
     let c₃ : length (cleared a work₃) ≡ length work₃ = cleared-length work₃ k (λ l. l .1 .1 .1 .0) in
-    record { output = written-length _ output (fits 32792 (length output) k (λ l. l .0) (resolve-gives source (length output) (length work₁) (length work₂) (length work₃)) table-fit); works = rw (c₁, c₂, c₃) }
+    record { output = written-length _ output (fits 32792 (length output) k (λ l. l .0) (resolve-gives source) table-fit); works = rw (c₁, c₂, c₃) }
