@@ -2,3 +2,4 @@ pub mod Sizes
 pub mod Loads
 pub mod Values
 pub mod Stores
+pub mod Determined

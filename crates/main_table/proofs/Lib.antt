@@ -2,3 +2,4 @@ pub mod Lowers
 pub mod Moves
 pub mod Views
 pub mod Mains
+pub mod Determined

@@ -30,3 +30,5 @@ pub mod Allowed
 -- the four operations, computed
 pub mod Running
 pub mod Operations
+-- How much the contracts must say
+pub mod Determines

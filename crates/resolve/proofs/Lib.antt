@@ -1,2 +1,3 @@
 pub mod Main
 pub mod Turns
+pub mod Determined

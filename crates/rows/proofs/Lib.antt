@@ -5,3 +5,4 @@ pub mod Views
 pub mod Searches
 pub mod Changes
 pub mod Trees
+pub mod Determined

@@ -16,3 +16,4 @@ pub mod Starting
 pub mod Running
 pub mod Ending
 pub mod Choosing
+pub mod Determined

@@ -1,3 +1,4 @@
 pub mod At
 pub mod Strings
 pub mod Decodes
+pub mod Determined

@@ -2,3 +2,4 @@ pub mod Records
 pub mod Values
 pub mod Statements
 pub mod Wholes
+pub mod Determined

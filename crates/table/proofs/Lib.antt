@@ -3,3 +3,4 @@ pub mod Steps
 pub mod Inside
 pub mod Children
 pub mod Headers
+pub mod Determined

@@ -5,10 +5,9 @@ use mathlib.Core.Bool.{Bool, not, _&&_}
 use mathlib.Core.List.{List}
 use mathlib.Core.Option.{Option, none, some}
 use lib.ListN.{length, take, drop}
-use Rattle.paper.specs.Syntax.{Basic}
 use Rattle.paper.specs.Tokens.{reserved, member}
 use Rattle.paper.specs.Scanner.{scan}
-use Rattle.paper.specs.Decoder.{one-name, one-decimal, long-of, leaf, field}
+use Rattle.paper.specs.Decoder.{Cursor, one-name, one-decimal, long-of, leaf, field}
 use Rattle.theorems.proofs.Laws.DecodeAt.{cursor}
 use Rattle.texts.specs.declared.Past.{Past}
 use Rattle.texts.specs.declared.Past.the-variants.{At, Bad}
@@ -41,12 +40,15 @@ abbrev pub LongIs : List ℕ → ℕ → Past → Type 0
 LongIs text p (At q) = LongEnds text p q
 LongIs text p Bad = long-of (drop p text) ≡ none
 
--- the same of a basic of kind k and value v that is no vector, wherever its record stands
-abbrev pub LeafIs : List ℕ → ℕ → ℕ → ℕ → Past → Type 0
-LeafIs text k v p (At q) = (recs : List ℕ) (i : ℕ) → (b : Basic) × (leaf k v (cursor recs text i p) ≡ some (b, cursor recs text i q))
-LeafIs text k v p Bad = (recs : List ℕ) (i : ℕ) → leaf k v (cursor recs text i p) ≡ none
+-- a reader that stood at p of the text found something, and then stands at q, wherever the records stand
+abbrev pub FoundIs : {A : Type 0} → (Cursor → Option (A × Cursor)) → List ℕ → ℕ → Past → Type 0
+FoundIs {A} read text p (At q) = (recs : List ℕ) (i : ℕ) → (a : A) × (read (cursor recs text i p) ≡ some (a, cursor recs text i q))
+FoundIs read text p Bad = (recs : List ℕ) (i : ℕ) → read (cursor recs text i p) ≡ none
 
--- the same of a text whose place a record says, wherever the records stand
+-- it read a basic of kind k and value v that is no vector
+abbrev pub LeafIs : List ℕ → ℕ → ℕ → ℕ → Past → Type 0
+LeafIs text k v p = FoundIs (leaf k v) text p
+
+-- it read a text whose place a record says
 abbrev pub FieldIs : {A : Type 0} → (List ℕ → Option (A × List ℕ)) → List ℕ → ℕ → ℕ → Past → Type 0
-FieldIs {A} r text place p (At q) = (recs : List ℕ) (i : ℕ) → (a : A) × (field r place (cursor recs text i p) ≡ some (a, cursor recs text i q))
-FieldIs r text place p Bad = (recs : List ℕ) (i : ℕ) → field r place (cursor recs text i p) ≡ none
+FieldIs r text place p = FoundIs (field r place) text p

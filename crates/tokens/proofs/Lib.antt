@@ -10,3 +10,4 @@ pub mod Shapes
 pub mod Nexts
 pub mod Tests
 pub mod Told
+pub mod Determined
