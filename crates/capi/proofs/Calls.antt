@@ -6,10 +6,11 @@ use mathlib.Core.List.{List}
 use mathlib.Core.Logic.{⊎-elim}
 use lib.ListN.{length}
 use Rattle.paper.specs.Answer.{Answer, ok, refused}
-use Rattle.paper.specs.Limits.{most-source}
+use Rattle.paper.specs.Limits.{most-source, least-list}
 use Rattle.paper.specs.Operations.{translates, runs, takes-main, resolves}
 use Rattle.paper.specs.Lent.{Outcome, told, Lent}
 use Rattle.theorems.proofs.Demands.{demands}
+use Rattle.theorems.proofs.Kept.Slices.{translate-fits, run-fits, main-fits, resolve-fits}
 use Rattle.capi.specs.Called.{Called, coded, in-c}
 
 -- ---- the two cases of an answer
@@ -69,12 +70,41 @@ resolves-small source o w₁ w₂ w₃ =
     small (λ n p h. (⊎-elim (λ q. omega (arith, q .1)) (λ q. q .1) (demands .resolve-numbers source n p h), demands .resolve-places source n p h .1))
     (demands .resolve-exactly source o w₁ w₂ w₃ _ .0 refl)
 
--- ---- what C can take apart again
+-- ---- what C can take apart again: of each operation, number and place, or that it was done
 
-pub refused-apart : (n p : ℕ) → p ≤ 32768 → (coded (refused n p) / 4294967296 ≡ n) × (coded (refused n p) % 4294967296 ≡ p)
+pub record Apart (x : Outcome) : Type 0 where
+  pub refused-as : (n p : ℕ) → x .answer ≡ refused n p → (coded (x .answer) / 4294967296 ≡ n) × (coded (x .answer) % 4294967296 ≡ p)
+  pub done-as : (n : ℕ) → x .answer ≡ ok n → (coded (x .answer) / 4294967296 ≡ 0) × (coded (x .answer) ≡ n)
+
+refused-apart : (n p : ℕ) → p ≤ most-source → (coded (refused n p) / 4294967296 ≡ n) × (coded (refused n p) % 4294967296 ≡ p)
 unfolding coded
 refused-apart n p h = (omega arith, omega arith)
 
-pub done-apart : (n : ℕ) → n ≤ 53272 → coded (ok n) / 4294967296 ≡ 0
+done-apart : (n : ℕ) → n ≤ least-list → (coded (ok n) / 4294967296 ≡ 0) × (coded (ok n) ≡ n)
 unfolding coded
-done-apart n h = omega arith
+done-apart n h = (omega arith, refl)
+
+-- how many bytes were written is the length of what was written
+told-long : (a : Answer (List ℕ)) → ((b : List ℕ) → a ≡ ok b → length b ≤ least-list) → (n : ℕ) → told a ≡ ok n → n ≤ least-list
+unfolding told
+told-long (ok b) f n e = let i : length b ≡ n = cc in omega (arith, f b refl)
+told-long (refused m q) f n e = absurd (let z : _≡_ {A = ℕ} 0 1 = cc in omega arith)
+
+apart-of : (x : Outcome) → Small x → ((n : ℕ) → x .answer ≡ ok n → n ≤ least-list) → Apart x
+apart-of x s l = record { refused-as = λ n p e. rw e (refused-apart n p (s n p e .1)); done-as = λ n e. rw e (done-apart n (l n e)) }
+
+pub record AllApart : Type 0 where
+  pub translate : (source o w : List ℕ) → Apart (translates source o w)
+  pub run : (list start o w₁ w₂ : List ℕ) → Apart (runs list start o w₁ w₂)
+  pub main : (whole o : List ℕ) → Apart (takes-main whole o)
+  pub resolve : (source o w₁ w₂ w₃ : List ℕ) → Apart (resolves source o w₁ w₂ w₃)
+
+pub apart : AllApart
+unfolding translates runs takes-main resolves
+apart =
+    record {
+      translate = λ source o w. apart-of _ (translates-small source o w) (told-long _ (translate-fits source (length o) (length w)));
+      run = λ list start o w₁ w₂. apart-of _ (runs-small list start o w₁ w₂) (told-long _ (λ b e. omega (arith, run-fits list start (length o) (length w₁) (length w₂) b e)));
+      main = λ whole o. apart-of _ (main-small whole o) (told-long _ (λ b e. omega (arith, main-fits whole (length o) b e)));
+      resolve = λ source o w₁ w₂ w₃. apart-of _ (resolves-small source o w₁ w₂ w₃) (told-long _ (λ b e. omega (arith, resolve-fits source (length o) (length w₁) (length w₂) (length w₃) b e)));
+    }

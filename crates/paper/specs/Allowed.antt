@@ -1,5 +1,6 @@
--- Which answers document 01 allows, where no lent slice is too short: of each operation, and of a description that is translated and then
--- run. Said with no reader of bytes and no steps in turn. The operations answer exactly this (proofs/Demands). Assumes nothing.
+-- Which answers document 01 allows, where no lent slice is too short: of each operation, and of a description that is
+-- translated and then run. Said with no reader of bytes and no steps in turn. The operations answer exactly this (theorem
+-- `demands`). Assumes nothing.
 use Prim.Native.Nat.{ℕ}
 use mathlib.Core.Path.{_≡_}
 use mathlib.Core.List.{List, []}
@@ -35,9 +36,11 @@ pub data Runs (list start : List ℕ) : Answer (List ℕ) → Type 0 where
   no-list : ((d : Block) → IsStepList list d → ⊥) → Runs list start (refused 9 0)
   no-table : {d : Block} → IsStepList list d → ((s : Store) → IsTable start s → ⊥) → Runs list start (refused 10 0)
   -- the semantics or a bound refuses a step: 11 to 18
-  not-run : {d : Block} {s : Store} {n p : ℕ} → IsStepList list d → IsTable start s → B⟦ d ⟧ [] s ≡ refused n p → Runs list start (refused n p)
+  not-run : {d : Block} {s : Store} {n p : ℕ} → IsStepList list d → IsTable start s → B⟦ d ⟧ [] s ≡ refused n p
+      → Runs list start (refused n p)
   -- accepted: the table of what the steps mean over the starting store
-  accepted : {d : Block} {s t : Store} → IsStepList list d → IsTable start s → B⟦ d ⟧ [] s ≡ ok t → Runs list start (ok (table t))
+  accepted : {d : Block} {s t : Store} → IsStepList list d → IsTable start s → B⟦ d ⟧ [] s ≡ ok t
+      → Runs list start (ok (table t))
 
 -- ---- "Main: whole table to the table of `sfConfig`."
 
@@ -65,8 +68,11 @@ pub data Evaluates (source start : List ℕ) : Answer (List ℕ) → Type 0 wher
   -- 1 to 7
   not-translated : {n p : ℕ} → Translates source (refused n p) → Evaluates source start (refused n p)
   -- "step list / table not well-formed", 10
-  no-table : {b : Block} → Accepts source b → ((s : Store) → IsTable start s → ⊥) → Evaluates source start (refused 10 0)
+  no-table : {b : Block} → Accepts source b → ((s : Store) → IsTable start s → ⊥)
+      → Evaluates source start (refused 10 0)
   -- the semantics or a bound refuses a step of the description over that table: 11 to 18
-  not-evaluated : {b : Block} {s : Store} {n p : ℕ} → Accepts source b → IsTable start s → B⟦ b ⟧ [] s ≡ refused n p → Evaluates source start (refused n p)
+  not-evaluated : {b : Block} {s : Store} {n p : ℕ} → Accepts source b → IsTable start s → B⟦ b ⟧ [] s ≡ refused n p
+      → Evaluates source start (refused n p)
   -- accepted: the very bytes that evaluating the description over that table gives
-  accepted : {b : Block} {s t : Store} → Accepts source b → IsTable start s → B⟦ b ⟧ [] s ≡ ok t → Evaluates source start (ok (table t))
+  accepted : {b : Block} {s t : Store} → Accepts source b → IsTable start s → B⟦ b ⟧ [] s ≡ ok t
+      → Evaluates source start (ok (table t))

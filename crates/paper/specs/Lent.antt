@@ -1,4 +1,5 @@
--- Lent slices (document 01, "Refusal numbers"): what a caller is told, what each lent slice holds afterwards, and 8. Assumes nothing.
+-- Lent slices (document 01, "Refusal numbers"): what a caller is told, what each lent slice holds afterwards, and 8.
+-- Assumes nothing.
 use Prim.Native.Nat.{ℕ, _≤_}
 use mathlib.Core.Path.{_≡_}
 use mathlib.Core.Bool.{true, false}
@@ -48,14 +49,16 @@ pub record Enough (least : ℕ) (output : List ℕ) (works : List (List ℕ)) : 
   pub output-long : least ≤ length output
   pub works-long : LongWorks works
 
--- "a lent slice too short", 8 at 0, before all others; where `Long` holds no slice is, and the answer is one that is allowed
+-- "a lent slice too short", 8 at 0, before all others; where `Long` holds no slice is too short, and the answer is one
+-- that is allowed
 pub data Lent (Long : Type 0) (Allowed : Answer (List ℕ) → Type 0) : Answer (List ℕ) → Type 0 where
   too-short : (Long → ⊥) → Lent Long Allowed (refused 8 0)
   long : {a : Answer (List ℕ)} → Long → Allowed a → Lent Long Allowed a
 
--- A call comes to the one answer that is allowed: its outcome x is that answer's, from what the lent slices held before it. The answer is
--- 8 only where a slice is too short.
-pub record Call (Long : Type 0) (Allowed : Answer (List ℕ) → Type 0) (output : List ℕ) (works : List (List ℕ)) (x : Outcome) : Type 0 where
+-- A call comes to the one answer that is allowed: its outcome x is that answer's, from what the lent slices held before
+-- it. The answer is 8 only where a slice is too short.
+pub record Call (Long : Type 0) (Allowed : Answer (List ℕ) → Type 0) (output : List ℕ) (works : List (List ℕ)) (x : Outcome)
+    : Type 0 where
   pub answer : Answer (List ℕ)
   pub allowed : Lent Long Allowed answer
   pub only : (a : Answer (List ℕ)) → Lent Long Allowed a → a ≡ answer

@@ -77,7 +77,7 @@ pub data RanIs (p : ℕ) (ys : ℕ → List Row) : Answer Store → Ran → Type
   gone : {s : Store} {rows text : ℕ} → Held (ys rows) text s → RanIs p ys (ok s) (Done rows text)
   stopped : {k : ℕ} → RanIs p ys (refused k p) (Refused k)
 
--- "bind, and then the bounds", at the path ns and then name
+-- bind, and then the bounds, at the path ns and then name
 abbrev pub Assigns : List ℕ → List ℕ → ℕ → Path → Name → ℕ → ℕ → List ℕ → List ℕ → List ℕ → Ran → Type 0
 Assigns t u n ns name m text w s w′ r =
     (st : Store) (v : Value) (p : ℕ) → Held (view t u w n) text st → view t u s m ≡ flat-value (1 + length ns) name v → RanIs p (view t u w′) (assign p (ns ++ (name ∷ [])) v st) r
