@@ -87,7 +87,7 @@ pub enum Laid {
     Opened(usize),
 }
 
-pub fn lay(basic: Basic) -> Laid
+pub(crate) fn lay(basic: Basic) -> Laid
     ensures { λ r. ⌜ r ≡ laidOf basic ⌝ }
 {
     match basic {

@@ -19,7 +19,7 @@ pub enum Went {
 }
 
 // The same drafts, at another place.
-pub fn moved(c: Cursor, at: usize) -> Cursor
+pub(crate) fn moved(c: Cursor, at: usize) -> Cursor
     ensures { λ r. ⌜ r ≡ movedTo c at ⌝ }
 {
     Cursor {

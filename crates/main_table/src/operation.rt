@@ -31,15 +31,14 @@ fn main_in(recs: &[u8], text: &[u8], n: usize, out: &mut [u8]) -> Answer
     ensures { λ r. ⌜ _≡_ {A = Outcome} (outcome r (now (out .exit))) (main-outcome (main-of (store-in (now (recs .entry)) (now (text .entry)) n)) (now (out .entry))) ⌝ }
 {
     let name = MAIN;
-    match find_child(recs, text, 0, n, &name) {
-        Found::At(i) => {
-            if kind_at(recs, i) != 0 {
-                return Answer::Refused(20, 0);
-            }
-            Answer::Done(lower_table(recs, text, i, out))
-        }
-        Found::Nothing => Answer::Refused(19, 0),
+    let found = find_child(recs, text, 0, n, &name);
+    let Found::At(i) = found else {
+        return Answer::Refused(19, 0);
+    };
+    if kind_at(recs, i) != 0 {
+        return Answer::Refused(20, 0);
     }
+    Answer::Done(lower_table(recs, text, i, out))
 }
 
 pub fn main(table: &[u8], out: &mut [u8]) -> Answer

@@ -178,11 +178,11 @@ pub(crate) fn statements<'a>(
     while begins(step_at(list, i)) {
         match statement(list, i, w, rows, bytes, s, k, t, u) {
             Went::Next {
-                record: at,
+                record: next,
                 rows: r,
                 text: b,
             } => {
-                i = at;
+                i = next;
                 rows = r;
                 bytes = b;
             }

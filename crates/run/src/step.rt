@@ -190,8 +190,8 @@ pub(crate) fn take<'a>(
     if m < 1 {
         return Ran::Refused(12);
     }
-    let found = resolve_at(w, n, s, j, m, t, u);
-    let Found::At(at) = found else {
+    let source = resolve_at(w, n, s, j, m, t, u);
+    let Found::At(at) = source else {
         return Ran::Refused(12);
     };
     if kind_at(w, at) != 0 {

@@ -36,7 +36,7 @@ fn distinct_in(recs: &[u8], text: &[u8], i: usize, span: usize) -> bool
     distinct(recs, text, i + 16, span - 1)
 }
 
-pub fn distinct(recs: &[u8], text: &[u8], from: usize, n: usize) -> bool
+pub(crate) fn distinct(recs: &[u8], text: &[u8], from: usize, n: usize) -> bool
     ensures { λ r. ⌜ DistinctIs (now (recs .entry)) (now (text .entry)) from n r ⌝ }
 {
     let mut i = from;

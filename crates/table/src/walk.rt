@@ -46,7 +46,14 @@ fn value(recs: &[u8], text: &[u8], depth: usize, span: usize, i: usize, p: usize
 }
 
 // A component's attributes.
-pub fn entries(recs: &[u8], text: &[u8], depth: usize, n: usize, first: usize, from: usize) -> Walk
+pub(crate) fn entries(
+    recs: &[u8],
+    text: &[u8],
+    depth: usize,
+    n: usize,
+    first: usize,
+    from: usize,
+) -> Walk
     ensures { λ r. ⌜ WalkIs (entries-here (now (recs .entry)) (now (text .entry)) depth n first from) (now (recs .entry)) (now (text .entry)) r ⌝ }
 {
     let mut i = first;

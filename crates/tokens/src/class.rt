@@ -23,13 +23,13 @@ const CLASS: [u8; 256] = *b"\
     0000000000000000000000000000000000000000000000000000000000000000";
 
 // A constant array is made anew at each read: a scan makes it once and lends it.
-pub fn table() -> [u8; 256]
+pub(crate) fn table() -> [u8; 256]
     ensures { λ r. ⌜ Classed r ⌝ }
 {
     CLASS
 }
 
-pub fn wide(x: u8) -> usize
+pub(crate) fn wide(x: u8) -> usize
     ensures { λ r. ⌜ (r ≡ x) × (r < 256) ⌝ }
 {
     x as usize

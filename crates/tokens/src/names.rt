@@ -65,7 +65,7 @@ fn is_word(name: &[u8], word: &[u8; 9], n: usize) -> bool
 }
 
 // A reserved word, or a name.
-pub fn kind_of(name: &[u8]) -> Kind
+pub(crate) fn kind_of(name: &[u8]) -> Kind
     ensures { λ r. ⌜ r ≡ wordFrom 0 (now (name .entry)) reserved ⌝ }
 {
     let words = WORDS;

@@ -1274,7 +1274,7 @@ statements-statement-requires : (t : ℕ) → statements-lts.Need-statement-requ
 ) (statements-at t) statements.Post statements-Inv-loop statements-μ-loop
 statements-statement-requires t c κs = let a = c .before .before .before .before .before .before .before .before .before .before .before .args in let p = c .before .before .before .before .before .before .before .before .before .before .before .pre .1 in let l = c .before .before .before .before .before .loop in let e : begins-statement (step-field 2 (a .list .now) (l .i) 0) ≡ true = ap begins-statement (sym (c .before .before .before .before .step-at .ensures)) ∙ sym (c .before .before .before .begins .ensures) ∙ c .before .before .if1 .taken in let li = statement-there (a .list .now) (l .i) e (p .3) in (omega (arith, c .before .before .before .before .before .before .before .before .before .before .before .pre .0, l .inv .0, li), (li, l .inv .2, l .inv .3, p .3, p .4, omega (arith, l .inv .4, p .5), omega (arith, l .inv .5, p .6)))
 
-statements-enum-known-at : (t : ℕ) → statements-lts.Need-enum-known-at (
+statements-enum-known-next : (t : ℕ) → statements-lts.Need-enum-known-next (
   step-at-reads.Asked,
   step-at-reads.Learnt,
   begins-reads.Asked,
@@ -1282,7 +1282,7 @@ statements-enum-known-at : (t : ℕ) → statements-lts.Need-enum-known-at (
   statement-below t,
   statement′.Post,
 ) (statements-at t) statements.Post statements-Inv-loop statements-μ-loop
-statements-enum-known-at t c = search needs
+statements-enum-known-next t c = search needs
 
 statements-loop-less : (t : ℕ) → statements-lts.Need-loop-less (
   step-at-reads.Asked,
@@ -1292,7 +1292,7 @@ statements-loop-less : (t : ℕ) → statements-lts.Need-loop-less (
   statement-below t,
   statement′.Post,
 ) (statements-at t) statements.Post statements-Inv-loop statements-μ-loop
-statements-loop-less t c = let a = c .before .before .before .before .before .before .before .before .before .before .before .before .before .before .before .before .before .before .before .args in let p = c .before .before .before .before .before .before .before .before .before .before .before .before .before .before .before .before .before .before .before .pre .1 in let l = c .before .before .before .before .before .before .before .before .before .before .before .before .before .loop in let X = subst (NextIn (l .i + 1)) (c .before .at .given .1) (c .before .before .before .before .before .before .before .statement .ensures .0) in omega (arith, X .0, X .1)
+statements-loop-less t c = let a = c .before .before .before .before .before .before .before .before .before .before .before .before .before .before .before .before .before .before .before .args in let p = c .before .before .before .before .before .before .before .before .before .before .before .before .before .before .before .before .before .before .before .pre .1 in let l = c .before .before .before .before .before .before .before .before .before .before .before .before .before .loop in let X = subst (NextIn (l .i + 1)) (c .before .next .given .1) (c .before .before .before .before .before .before .before .statement .ensures .0) in omega (arith, X .0, X .1)
 
 statements-loop-again : (t : ℕ) → statements-lts.Need-loop-again (
   step-at-reads.Asked,
@@ -1302,7 +1302,7 @@ statements-loop-again : (t : ℕ) → statements-lts.Need-loop-again (
   statement-below t,
   statement′.Post,
 ) (statements-at t) statements.Post statements-Inv-loop statements-μ-loop
-statements-loop-again t c = let a = c .before .before .before .before .before .before .before .before .before .before .before .before .before .before .before .before .before .before .before .args in let p = c .before .before .before .before .before .before .before .before .before .before .before .before .before .before .before .before .before .before .before .pre .1 in let l = c .before .before .before .before .before .before .before .before .before .before .before .before .before .loop in let e : begins-statement (step-field 2 (a .list .now) (l .i) 0) ≡ true = ap begins-statement (sym (c .before .before .before .before .before .before .before .before .before .before .before .before .step-at .ensures)) ∙ sym (c .before .before .before .before .before .before .before .before .before .before .before .begins .ensures) ∙ c .before .before .before .before .before .before .before .before .before .before .if1 .taken in let li = statement-there (a .list .now) (l .i) e (p .3) in let X = subst (NextIn (l .i + 1)) (c .before .at .given .1) (c .before .before .before .before .before .before .before .statement .ensures .0) in (omega (arith, X .0, l .inv .0), X .1, X .2, X .3, c .before .before .before .before .before .before .before .statement .kept .1 .1 .0 ∙ l .inv .4, c .before .before .before .before .before .before .before .statement .kept .1 .1 .1 .1 .1 .0 ∙ l .inv .5, kept-both (a .k) (a .s .now) (l .s) (c .before .before .before .before .before .before .before .statement .last .1 .1 .1 .1 .1 .0) (l .inv .6) (c .before .before .before .before .before .before .before .statement .ensures .1), λ b q rest st g y stops h held. statement-on (a .list .now) (a .t .now) (a .u .now) (l .w) (c .before .before .before .before .before .before .before .statement .last .1 .1 .0) (a .s .now) (l .s) (l .i) (l .rows) (l .bytes) (a .k) rest (B⟦ b ⟧ (scope-in (a .t .now) (a .u .now) (a .s .now) (a .k)) st) (a .first + length (all-rows (steps b))) h (p .3) (l .inv .1) stops (l .inv .6) e (l .inv .7 b q rest st g y stops h held) (c .before .at .given .0 .0) (c .before .at .given .0 .1 .0) (c .before .at .given .0 .1 .1 .0) (subst (StatementIs (a .list .now) (l .i) (a .t .now) (a .u .now) (l .rows) (l .bytes) (a .k) (l .s) (l .w) (c .before .before .before .before .before .before .before .statement .last .1 .1 .0)) (c .before .at .given .1) (c .before .before .before .before .before .before .before .statement .ensures .2)))
+statements-loop-again t c = let a = c .before .before .before .before .before .before .before .before .before .before .before .before .before .before .before .before .before .before .before .args in let p = c .before .before .before .before .before .before .before .before .before .before .before .before .before .before .before .before .before .before .before .pre .1 in let l = c .before .before .before .before .before .before .before .before .before .before .before .before .before .loop in let e : begins-statement (step-field 2 (a .list .now) (l .i) 0) ≡ true = ap begins-statement (sym (c .before .before .before .before .before .before .before .before .before .before .before .before .step-at .ensures)) ∙ sym (c .before .before .before .before .before .before .before .before .before .before .before .begins .ensures) ∙ c .before .before .before .before .before .before .before .before .before .before .if1 .taken in let li = statement-there (a .list .now) (l .i) e (p .3) in let X = subst (NextIn (l .i + 1)) (c .before .next .given .1) (c .before .before .before .before .before .before .before .statement .ensures .0) in (omega (arith, X .0, l .inv .0), omega (arith, X .1), X .2, X .3, c .before .before .before .before .before .before .before .statement .kept .1 .1 .0 ∙ l .inv .4, c .before .before .before .before .before .before .before .statement .kept .1 .1 .1 .1 .1 .0 ∙ l .inv .5, kept-both (a .k) (a .s .now) (l .s) (c .before .before .before .before .before .before .before .statement .last .1 .1 .1 .1 .1 .0) (l .inv .6) (c .before .before .before .before .before .before .before .statement .ensures .1), λ b q rest st g y stops h held. statement-on (a .list .now) (a .t .now) (a .u .now) (l .w) (c .before .before .before .before .before .before .before .statement .last .1 .1 .0) (a .s .now) (l .s) (l .i) (l .rows) (l .bytes) (a .k) rest (B⟦ b ⟧ (scope-in (a .t .now) (a .u .now) (a .s .now) (a .k)) st) (a .first + length (all-rows (steps b))) h (p .3) (l .inv .1) stops (l .inv .6) e (l .inv .7 b q rest st g y stops h held) (c .before .next .given .0 .0) (c .before .next .given .0 .1 .0) (c .before .next .given .0 .1 .1 .0) (subst (StatementIs (a .list .now) (l .i) (a .t .now) (a .u .now) (l .rows) (l .bytes) (a .k) (l .s) (l .w) (c .before .before .before .before .before .before .before .statement .last .1 .1 .0)) (c .before .next .given .1) (c .before .before .before .before .before .before .before .statement .ensures .2)))
 
 statements-enum-known-number : (t : ℕ) → statements-lts.Need-enum-known-number (
   step-at-reads.Asked,
@@ -1522,7 +1522,7 @@ pub +component+prototype+prototypes+statement+statements-spec : {M : Type 1} →
     (statements-step-at-requires t)
     (statements-begins-requires t)
     (statements-statement-requires t)
-    (statements-enum-known-at t)
+    (statements-enum-known-next t)
     (statements-loop-less t)
     (statements-loop-again t)
     (statements-enum-known-number t)

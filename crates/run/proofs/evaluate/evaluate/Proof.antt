@@ -35,7 +35,7 @@ records-of-requires-2 : tie.Need-records-of-requires-2
 records-of-requires-2 c κs = search needs
 
 statements-requires : tie.Need-statements-requires
-statements-requires c κs = let a = c .before .before .before .before .before .before .before .before .before .before .before .before .before .before .before .before .before .before .args in let F = both (a .list .now) (a .start .now) (sym (c .before .before .before .before .before .before .before .before .before .before .before .before .before .is-step-list .ensures) ∙ not-false _ (c .before .before .before .before .before .before .before .before .before .before .before .before .if1 .left)) (sym (c .before .before .before .before .before .before .before .before .before .before .before .is-table .ensures) ∙ not-false _ (c .before .before .before .before .before .before .before .before .before .before .if2 .left)) in let R = ready (a .list .now) (a .start .now) F (c .before .before .before .before .before .before .before .records-of .result .now) (c .before .before .records-of2 .result .now) (c .before .before .before .before .before .before .before .before .before .text-of .result .now) (c .before .before .before .before .before .before .before .before .text-of2 .result .now) (c .before .before .before .before .before .before .before .records-of .ensures) (c .before .before .records-of2 .ensures) (c .before .before .before .before .before .before .before .before .before .text-of .ensures) (c .before .before .before .before .before .before .before .before .text-of2 .ensures) (a .w .now) (c .before .before .before .before .before .load .result) (c .before .before .before .before .before .before .before .before .before .before .before .before .before .before .before .before .before .before .pre .0) (c .before .before .before .before .before .load .ensures .1) in (omega arith, R .0, R .1, R .2, omega arith, omega (arith, c .before .before .before .before .before .load .kept .1 .1 .0), c .before .before .before .before .before .before .before .before .before .before .before .before .before .before .before .before .before .before .pre .1)
+statements-requires c κs = let a = c .before .before .before .before .before .before .before .before .before .before .before .before .before .before .before .before .before .before .args in let F = both (a .list .now) (a .start .now) (sym (c .before .before .before .before .before .before .before .before .before .before .before .before .before .is-step-list .ensures) ∙ not-false _ (c .before .before .before .before .before .before .before .before .before .before .before .before .if1 .left)) (sym (c .before .before .before .before .before .before .before .before .before .before .before .is-table .ensures) ∙ not-false _ (c .before .before .before .before .before .before .before .before .before .before .if2 .left)) in let R = ready (a .list .now) (a .start .now) F (c .before .before .before .before .before .before .before .records-of .result .now) (c .before .before .records-of2 .result .now) (c .before .before .before .before .before .before .before .before .before .text-of .result .now) (c .before .before .before .before .before .before .before .before .text-of2 .result .now) (c .before .before .before .before .before .before .before .records-of .ensures) (c .before .before .records-of2 .ensures) (c .before .before .before .before .before .before .before .before .before .text-of .ensures) (c .before .before .before .before .before .before .before .before .text-of2 .ensures) (a .w .now) (c .before .before .before .before .before .load .result) (c .before .before .before .before .before .before .before .before .before .before .before .before .before .before .before .before .before .before .pre .0) (c .before .before .before .before .before .load .ensures .1) in (omega arith, omega (arith, R .0), R .1, R .2, omega arith, omega (arith, c .before .before .before .before .before .load .kept .1 .1 .0), c .before .before .before .before .before .before .before .before .before .before .before .before .before .before .before .before .before .before .pre .1)
 
 same-length : tie.Need-same-length
 same-length c = search needs

@@ -30,7 +30,7 @@ abbrev resolve-knows : ℕ → resolve-lts.Claims
 resolve-knows t = (find-reads.Asked, find-reads.Learnt, resolve-below t, resolve.Post)
 
 resolve-find-requires : (t : ℕ) → resolve-lts.Need-find-requires (resolve-knows t) (resolve-at t) resolve.Post
-resolve-find-requires t c κs = c .before .before .before .before .before .pre .1
+resolve-find-requires t c κs = let p = c .before .before .before .before .before .pre .1 in (p .0, p .1, omega (arith, p .2, p .3), omega (arith, p .3), omega (arith, p .4), p .5, p .6)
 
 resolve-enum-known-found : (t : ℕ) → resolve-lts.Need-enum-known-found (resolve-knows t) (resolve-at t) resolve.Post
 resolve-enum-known-found t c = search needs

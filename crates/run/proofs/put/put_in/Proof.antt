@@ -30,7 +30,7 @@ end-of-requires : tie.Need-end-of-requires
 end-of-requires c κs = search needs
 
 replace-requires : tie.Need-replace-requires
-replace-requires c κs = let a = c .before .before .before .before .before .before .before .before .before .before .before .before .before .args in let p = c .before .before .before .before .before .before .before .before .before .before .before .before .before .pre in let l = sought-in (a .t .now) (a .u .now) (a .w .now) (a .n) (omega (arith, p .0)) (omega (arith, p .0, p .5)) (a .name .now) (a .d) (a .lo) (c .before .before .before .before .i .given .0 .0) (ap sought (sym (c .before .before .before .before .i .given .1)) ∙ c .before .before .before .before .before .before .child .ensures) in let E = end-in (a .t .now) (a .u .now) (a .w .now) (a .n) (omega (arith, p .0)) (omega (arith, p .0, p .5)) (c .before .before .before .before .i .given .0 .0 + 1) (a .d + 1) (c .before .end-of .result) (omega (arith, l)) (c .before .end-of .ensures (a .t .now) (a .u .now)) in (p .0, p .1, p .2, omega (arith, E .0), E .1, p .5, p .6)
+replace-requires c κs = let a = c .before .before .before .before .before .before .before .before .before .before .before .before .before .args in let p = c .before .before .before .before .before .before .before .before .before .before .before .before .before .pre in let l = sought-in (a .t .now) (a .u .now) (a .w .now) (a .n) (omega (arith, p .0)) (omega (arith, p .0, p .5)) (a .name .now) (a .d) (a .lo) (c .before .before .before .before .i .given .0 .0) (ap sought (sym (c .before .before .before .before .i .given .1)) ∙ c .before .before .before .before .before .before .child .ensures) in let E = end-in (a .t .now) (a .u .now) (a .w .now) (a .n) (omega (arith, p .0)) (omega (arith, p .0, p .5)) (c .before .before .before .before .i .given .0 .0 + 1) _ (c .before .end-of .result) (omega (arith, l)) (c .before .end-of .ensures (a .t .now) (a .u .now)) in (p .0, p .1, p .2, omega (arith, E .0), E .1, p .5, p .6)
 
 enum-told : tie.Need-enum-told
 enum-told c = search needs

@@ -35,8 +35,8 @@ returns c = let a = c .before .before .before .before .before .before .before .b
 resolve-at-requires : tie.Need-resolve-at-requires
 resolve-at-requires c κs = search needs
 
-enum-known-found : tie.Need-enum-known-found
-enum-known-found c = search needs
+enum-known-source : tie.Need-enum-known-source
+enum-known-source c = search needs
 
 enum-told : tie.Need-enum-told
 enum-told c = search needs
@@ -60,13 +60,13 @@ same-length-5 : tie.Need-same-length-5
 same-length-5 c = search needs
 
 returns-3 : tie.Need-returns-3
-returns-3 c = let a = c .before .before .before .before .before .before .before .before .before .before .before .before .before .before .before .before .before .before .before .before .args in let p = c .before .before .before .before .before .before .before .before .before .before .before .before .before .before .before .before .before .before .before .before .pre in (tt, (reference-kept (a .t .now) (a .s .now) (c .before .before .before .before .before .before .before .before .before .before .before .before .put-names .last .1 .1 .0) (c .before .before .before .before .before .before .before .before .before .before .before .before .before .before .path-at .result) (c .before .before .before .before .before .before .before .before .before .before .before .before .put-names .result) (c .before .before .before .before .before .before .before .before .before .before .before .before .put-names .ensures) (p .7)), takes-basic (a .list .now) (a .t .now) (a .u .now) (a .w .now) (a .s .now) (c .before .before .before .before .before .before .before .before .before .before .before .before .put-names .last .1 .1 .0) (a .i) (a .n) (a .text) (a .j) (a .k) (c .before .before .before .before .before .before .before .before .before .before .before .before .before .before .path-at .result) (c .before .before .before .before .before .before .before .before .before .before .before .before .put-names .result) (p .7) (p .5) (p .3) (p .1) (omega (arith, p .1, p .6)) (c .before .before .before .before .before .before .before .before .before .before .before .before .before .before .path-at .ensures) (c .before .before .before .before .before .before .before .before .before .before .before .before .put-names .ensures) (c .before .before .before .before .found .given .0 .0) (a .w .now) (subst (FoundIn (a .n)) (c .before .before .before .before .found .given .1) (c .before .before .before .before .before .before .resolve-at .ensures .0)) (subst (ResolvesIn (view (a .t .now) (a .u .now) (a .w .now) (a .n)) (a .j) (scope-in (a .t .now) (a .u .now) (c .before .before .before .before .before .before .before .before .before .before .before .before .put-names .last .1 .1 .0) (a .j)) (names (a .t .now) (a .u .now) (drop 33024 (c .before .before .before .before .before .before .before .before .before .before .before .before .put-names .last .1 .1 .0)) (c .before .before .before .before .before .before .before .before .before .before .before .before .put-names .result))) (c .before .before .before .before .found .given .1) (c .before .before .before .before .before .before .resolve-at .ensures .1)) (λ z. c .if2 .taken (c .before .kind-at .ensures ∙ z)))
+returns-3 c = let a = c .before .before .before .before .before .before .before .before .before .before .before .before .before .before .before .before .before .before .before .before .args in let p = c .before .before .before .before .before .before .before .before .before .before .before .before .before .before .before .before .before .before .before .before .pre in (tt, (reference-kept (a .t .now) (a .s .now) (c .before .before .before .before .before .before .before .before .before .before .before .before .put-names .last .1 .1 .0) (c .before .before .before .before .before .before .before .before .before .before .before .before .before .before .path-at .result) (c .before .before .before .before .before .before .before .before .before .before .before .before .put-names .result) (c .before .before .before .before .before .before .before .before .before .before .before .before .put-names .ensures) (p .7)), takes-basic (a .list .now) (a .t .now) (a .u .now) (a .w .now) (a .s .now) (c .before .before .before .before .before .before .before .before .before .before .before .before .put-names .last .1 .1 .0) (a .i) (a .n) (a .text) (a .j) (a .k) (c .before .before .before .before .before .before .before .before .before .before .before .before .before .before .path-at .result) (c .before .before .before .before .before .before .before .before .before .before .before .before .put-names .result) (p .7) (p .5) (p .3) (p .1) (omega (arith, p .1, p .6)) (c .before .before .before .before .before .before .before .before .before .before .before .before .before .before .path-at .ensures) (c .before .before .before .before .before .before .before .before .before .before .before .before .put-names .ensures) (c .before .before .before .before .source .given .0 .0) (a .w .now) (subst (FoundIn (a .n)) (c .before .before .before .before .source .given .1) (c .before .before .before .before .before .before .resolve-at .ensures .0)) (subst (ResolvesIn (view (a .t .now) (a .u .now) (a .w .now) (a .n)) (a .j) (scope-in (a .t .now) (a .u .now) (c .before .before .before .before .before .before .before .before .before .before .before .before .put-names .last .1 .1 .0) (a .j)) (names (a .t .now) (a .u .now) (drop 33024 (c .before .before .before .before .before .before .before .before .before .before .before .before .put-names .last .1 .1 .0)) (c .before .before .before .before .before .before .before .before .before .before .before .before .put-names .result))) (c .before .before .before .before .source .given .1) (c .before .before .before .before .before .before .resolve-at .ensures .1)) (λ z. c .if2 .taken (c .before .kind-at .ensures ∙ z)))
 
 add-attributes : tie.Need-add-attributes
 add-attributes c = search needs
 
 attributes-requires : tie.Need-attributes-requires
-attributes-requires c κs = let a = c .before .before .before .before .before .before .before .before .before .before .before .before .before .before .before .before .before .before .before .before .before .before .args in let p = c .before .before .before .before .before .before .before .before .before .before .before .before .before .before .before .before .before .before .before .before .before .before .pre in (p .1, omega (arith, p .1, p .6), (subst (FoundIn (a .n)) (c .before .before .before .before .before .before .found .given .1) (c .before .before .before .before .before .before .before .before .resolve-at .ensures .0)), omega arith, omega (arith, p .5), omega (arith, c .before .before .before .before .before .before .before .before .before .before .before .before .before .before .put-names .kept .1 .1 .0, p .7))
+attributes-requires c κs = let a = c .before .before .before .before .before .before .before .before .before .before .before .before .before .before .before .before .before .before .before .before .before .before .args in let p = c .before .before .before .before .before .before .before .before .before .before .before .before .before .before .before .before .before .before .before .before .before .before .pre in (p .1, omega (arith, p .1, p .6), (subst (FoundIn (a .n)) (c .before .before .before .before .before .before .source .given .1) (c .before .before .before .before .before .before .before .before .resolve-at .ensures .0)), omega arith, omega (arith, p .5), omega (arith, c .before .before .before .before .before .before .before .before .before .before .before .before .before .before .put-names .kept .1 .1 .0, p .7))
 
 copy-at-requires : tie.Need-copy-at-requires
 copy-at-requires c κs = search needs
@@ -78,7 +78,7 @@ same-length-7 : tie.Need-same-length-7
 same-length-7 c = search needs
 
 returns-4 : tie.Need-returns-4
-returns-4 c = let a = c .before .before .before .before .before .before .before .before .before .before .before .before .before .before .before .before .before .before .before .before .before .before .before .before .before .before .before .before .before .before .args in let p = c .before .before .before .before .before .before .before .before .before .before .before .before .before .before .before .before .before .before .before .before .before .before .before .before .before .before .before .before .before .before .pre in (c .before .before .copy-at .ensures .0, kept-then (a .s .now) (c .before .before .before .before .before .before .before .before .before .before .before .before .before .before .before .before .before .before .before .before .before .before .put-names .last .1 .1 .0) (c .before .before .before .before .before .before .before .attributes .last .1 .1 .1 .0) (reference-kept (a .t .now) (a .s .now) (c .before .before .before .before .before .before .before .before .before .before .before .before .before .before .before .before .before .before .before .before .before .before .put-names .last .1 .1 .0) (c .before .before .before .before .before .before .before .before .before .before .before .before .before .before .before .before .before .before .before .before .before .before .before .before .path-at .result) (c .before .before .before .before .before .before .before .before .before .before .before .before .before .before .before .before .before .before .before .before .before .before .put-names .result) (c .before .before .before .before .before .before .before .before .before .before .before .before .before .before .before .before .before .before .before .before .before .before .put-names .ensures) (p .7)) (drop-kept (c .before .before .before .before .before .before .before .before .before .before .before .before .before .before .before .before .before .before .before .before .before .before .put-names .last .1 .1 .0) (c .before .before .before .before .before .before .before .attributes .last .1 .1 .1 .0) (c .before .before .before .before .before .before .before .attributes .ensures .1)), takes-component (a .list .now) (a .t .now) (a .u .now) (a .w .now) (a .s .now) (c .before .before .before .before .before .before .before .before .before .before .before .before .before .before .before .before .before .before .before .before .before .before .put-names .last .1 .1 .0) (a .i) (a .n) (a .text) (a .j) (a .k) (c .before .before .before .before .before .before .before .before .before .before .before .before .before .before .before .before .before .before .before .before .before .before .before .before .path-at .result) (c .before .before .before .before .before .before .before .before .before .before .before .before .before .before .before .before .before .before .before .before .before .before .put-names .result) (p .7) (p .5) (p .3) (p .1) (omega (arith, p .1, p .6)) (c .before .before .before .before .before .before .before .before .before .before .before .before .before .before .before .before .before .before .before .before .before .before .before .before .path-at .ensures) (c .before .before .before .before .before .before .before .before .before .before .before .before .before .before .before .before .before .before .before .before .before .before .put-names .ensures) (c .before .before .before .before .before .before .before .before .before .before .before .before .before .before .found .given .0 .0) (c .before .before .before .before .before .before .before .attributes .result) (c .before .before .before .before .before .before .before .attributes .last .1 .1 .1 .0) (c .before .before .copy-at .last .0) (c .before .before .copy-at .result) (subst (FoundIn (a .n)) (c .before .before .before .before .before .before .before .before .before .before .before .before .before .before .found .given .1) (c .before .before .before .before .before .before .before .before .before .before .before .before .before .before .before .before .resolve-at .ensures .0)) (subst (ResolvesIn (view (a .t .now) (a .u .now) (a .w .now) (a .n)) (a .j) (scope-in (a .t .now) (a .u .now) (c .before .before .before .before .before .before .before .before .before .before .before .before .before .before .before .before .before .before .before .before .before .before .put-names .last .1 .1 .0) (a .j)) (names (a .t .now) (a .u .now) (drop 33024 (c .before .before .before .before .before .before .before .before .before .before .before .before .before .before .before .before .before .before .before .before .before .before .put-names .last .1 .1 .0)) (c .before .before .before .before .before .before .before .before .before .before .before .before .before .before .before .before .before .before .before .before .before .before .put-names .result))) (c .before .before .before .before .before .before .before .before .before .before .before .before .before .before .found .given .1) (c .before .before .before .before .before .before .before .before .before .before .before .before .before .before .before .before .resolve-at .ensures .1)) (sym (c .before .before .before .before .before .before .before .before .before .before .before .kind-at .ensures) ∙ c .before .before .before .before .before .before .before .before .before .before .if2 .left) (c .before .before .before .before .before .before .before .attributes .ensures .2) (c .before .before .before .before .before .before .before .attributes .ensures .1) (c .before .before .copy-at .ensures .1))
+returns-4 c = let a = c .before .before .before .before .before .before .before .before .before .before .before .before .before .before .before .before .before .before .before .before .before .before .before .before .before .before .before .before .before .before .args in let p = c .before .before .before .before .before .before .before .before .before .before .before .before .before .before .before .before .before .before .before .before .before .before .before .before .before .before .before .before .before .before .pre in (c .before .before .copy-at .ensures .0, kept-then (a .s .now) (c .before .before .before .before .before .before .before .before .before .before .before .before .before .before .before .before .before .before .before .before .before .before .put-names .last .1 .1 .0) (c .before .before .before .before .before .before .before .attributes .last .1 .1 .1 .0) (reference-kept (a .t .now) (a .s .now) (c .before .before .before .before .before .before .before .before .before .before .before .before .before .before .before .before .before .before .before .before .before .before .put-names .last .1 .1 .0) (c .before .before .before .before .before .before .before .before .before .before .before .before .before .before .before .before .before .before .before .before .before .before .before .before .path-at .result) (c .before .before .before .before .before .before .before .before .before .before .before .before .before .before .before .before .before .before .before .before .before .before .put-names .result) (c .before .before .before .before .before .before .before .before .before .before .before .before .before .before .before .before .before .before .before .before .before .before .put-names .ensures) (p .7)) (drop-kept (c .before .before .before .before .before .before .before .before .before .before .before .before .before .before .before .before .before .before .before .before .before .before .put-names .last .1 .1 .0) (c .before .before .before .before .before .before .before .attributes .last .1 .1 .1 .0) (c .before .before .before .before .before .before .before .attributes .ensures .1)), takes-component (a .list .now) (a .t .now) (a .u .now) (a .w .now) (a .s .now) (c .before .before .before .before .before .before .before .before .before .before .before .before .before .before .before .before .before .before .before .before .before .before .put-names .last .1 .1 .0) (a .i) (a .n) (a .text) (a .j) (a .k) (c .before .before .before .before .before .before .before .before .before .before .before .before .before .before .before .before .before .before .before .before .before .before .before .before .path-at .result) (c .before .before .before .before .before .before .before .before .before .before .before .before .before .before .before .before .before .before .before .before .before .before .put-names .result) (p .7) (p .5) (p .3) (p .1) (omega (arith, p .1, p .6)) (c .before .before .before .before .before .before .before .before .before .before .before .before .before .before .before .before .before .before .before .before .before .before .before .before .path-at .ensures) (c .before .before .before .before .before .before .before .before .before .before .before .before .before .before .before .before .before .before .before .before .before .before .put-names .ensures) (c .before .before .before .before .before .before .before .before .before .before .before .before .before .before .source .given .0 .0) (c .before .before .before .before .before .before .before .attributes .result) (c .before .before .before .before .before .before .before .attributes .last .1 .1 .1 .0) (c .before .before .copy-at .last .0) (c .before .before .copy-at .result) (subst (FoundIn (a .n)) (c .before .before .before .before .before .before .before .before .before .before .before .before .before .before .source .given .1) (c .before .before .before .before .before .before .before .before .before .before .before .before .before .before .before .before .resolve-at .ensures .0)) (subst (ResolvesIn (view (a .t .now) (a .u .now) (a .w .now) (a .n)) (a .j) (scope-in (a .t .now) (a .u .now) (c .before .before .before .before .before .before .before .before .before .before .before .before .before .before .before .before .before .before .before .before .before .before .put-names .last .1 .1 .0) (a .j)) (names (a .t .now) (a .u .now) (drop 33024 (c .before .before .before .before .before .before .before .before .before .before .before .before .before .before .before .before .before .before .before .before .before .before .put-names .last .1 .1 .0)) (c .before .before .before .before .before .before .before .before .before .before .before .before .before .before .before .before .before .before .before .before .before .before .put-names .result))) (c .before .before .before .before .before .before .before .before .before .before .before .before .before .before .source .given .1) (c .before .before .before .before .before .before .before .before .before .before .before .before .before .before .before .before .resolve-at .ensures .1)) (sym (c .before .before .before .before .before .before .before .before .before .before .before .kind-at .ensures) ∙ c .before .before .before .before .before .before .before .before .before .before .if2 .left) (c .before .before .before .before .before .before .before .attributes .ensures .2) (c .before .before .before .before .before .before .before .attributes .ensures .1) (c .before .before .copy-at .ensures .1))
 
 pub take-spec : {M : Type 1} → statement M
 take-spec =
@@ -89,7 +89,7 @@ take-spec =
     same-length
     returns
     resolve-at-requires
-    enum-known-found
+    enum-known-source
     enum-told
     same-length-2
     same-length-3

@@ -13,7 +13,7 @@ abbrev μ-loop : tie.MeasureT-loop
 μ-loop src out₀ work n size base i₀ t₀ out i t = n - i
 
 put-head-requires : tie.Need-put-head-requires Inv-loop μ-loop
-put-head-requires c κs = (c .before .before .before .before .pre .few, c .before .before .before .before .pre .light, omega (arith, c .before .before .before .before .pre .room))
+put-head-requires c κs = (omega (arith, c .before .before .before .before .pre .few), omega (arith, c .before .before .before .before .pre .light), omega (arith, c .before .before .before .before .pre .room))
 
 mul-base : tie.Need-mul-base Inv-loop μ-loop
 mul-base c = omega (arith, c .before .before .before .before .before .before .before .pre .few)
