@@ -3,11 +3,12 @@
  * Link with libcapi.a, which `./sf library` proves and writes for x86-64 Linux. It calls nothing but memset.
  *
  * Every slice is a pointer and a length. Inputs may hold any bytes. The caller sees to it, as for any C function,
- * that each pointer leads to as many bytes as its length says, that no two lent slices overlap, neither each other
- * nor an input, and that nobody else writes them during the call. A length may be 0; its pointer is then not followed.
+ * that each pointer leads to as many bytes as its length says, that `out` and the work slices overlap neither each
+ * other nor an input, and that nobody else writes any of these bytes during the call. A length may be 0; its pointer
+ * is then not followed.
  *
- * The answer is how many bytes were written to the front of `out`, or, from SF_REFUSED on, a refusal:
- * its number times 2^32, plus its place. After a refusal `out` is as it was.
+ * The answer is how many bytes were written to the front of `out`, the rest of which is as it was; or, from SF_REFUSED
+ * on, a refusal: its number times 2^32, plus its place. After a refusal `out` is as it was.
  *
  * The work slices may hold anything. When a call returns, their first SF_WORK bytes are zero and the rest is as it was;
  * after refusal 8, a lent slice too short, they are as they were.
@@ -25,6 +26,11 @@ extern "C" {
 #define SF_LIST 53272u  /* the smallest `out` for a step list */
 #define SF_TABLE 32792u /* the smallest `out` for a table */
 #define SF_WORK 65536u  /* the smallest work slice */
+
+/* As many bytes of stack as a call of any of the functions does with, besides its caller's, on any input: calls nest as
+ * the input does, and what nests more than 32 deep is refused on the way down. Measured and not proved:
+ * bindings/c/stack.c tries the deepest inputs. */
+#define SF_STACK 65536u
 
 #define SF_REFUSED (UINT64_C(1) << 32)
 

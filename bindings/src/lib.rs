@@ -21,6 +21,9 @@ pub const LIST: usize = 53_272;
 pub const TABLE: usize = 32_792;
 /// The smallest work slice.
 pub const WORK: usize = 65_536;
+/// As many bytes of stack as any of the functions over slices does with. Measured, not proved: `c/stack.c` tries the
+/// deepest inputs.
+pub const STACK: usize = 65_536;
 
 /// A refusal, by document 01's number and place: the output is then as it was.
 #[derive(Clone, Copy, Debug, PartialEq, Eq)]

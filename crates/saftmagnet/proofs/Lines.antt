@@ -1,44 +1,43 @@
--- A line that is added to piece by piece, and how long the digits of a number of 64 bits are. Assumes nothing.
-use mathlib.Core.Path.{_≡_, refl, sym, ap, _∙_}
+-- A line that is added to piece by piece. Assumes nothing.
+use mathlib.Core.Path.{_≡_, ap, ap₂, _∙_}
 use mathlib.Core.List.{List, [], _∷_, _++_, append-assoc}
-use mathlib.Core.Logic.{⊎-elim}
-use Prim.Native.Nat.{ℕ, _+_, _-_, _^_, _≤_, _<_}
-use native.Mathlib.Nat.{le-trans, pow-le-pow-right}
+use Prim.Native.Nat.{ℕ, _+_, _≤_}
 use native.Mathlib.Omega.{arith}
-use lib.Dec.{lit<}
 use lib.ListN.{length, length-append}
-use Rattle.io.specs.Digits.{Fewest}
-use Rattle.memory.specs.Memory.{stored}
-use Rattle.memory.proofs.Laws.{fit, stored-none, then-stored}
+use Rattle.memory.specs.Memory.{stored, part-at}
+use Rattle.memory.proofs.Laws.{then-stored, part-stored}
+use Rattle.saftmagnet.specs.Line.{Added}
 
 -- one piece more behind what is there
-step : (s x w : List ℕ) {l m : List ℕ} {a b : ℕ} → length x + length w ≤ length s → (a ≡ length x) × (l ≡ stored s 0 x) → (b ≡ a + length w) × (m ≡ stored l a w)
-    → (b ≡ length (x ++ w)) × (m ≡ stored s 0 (x ++ w))
-step s x w {a = a} h f g = (simp length-append (omega (arith, f .0, g .0)), g .1 ∙ ap (λ t. stored t a w) (f .1) ∙ then-stored s 0 a x w (omega (arith, f .0)) (omega (arith, f .0)))
+step : (s x w : List ℕ) {l m : List ℕ} {a b : ℕ} → length x + length w ≤ length s → Added s 0 x l a → Added l a w m b → Added s 0 (x ++ w) m b
+step s x w {a = a} h f g =
+    record {
+      ends = simp length-append (omega (arith, f .ends, g .ends));
+      holds =
+          g .holds ∙ ap (λ t. stored t a w) (f .holds) ∙ then-stored s 0 a x w (f .ends) (omega (arith, f .ends));
+    }
+
+-- a piece that is known by another name
+pub renamed : {s x y l : List ℕ} {a b : ℕ} → x ≡ y → Added s a x l b → Added s a y l b
+renamed e f = rw e at f
 
 pub line : (s u n v p w : List ℕ) {l₁ l₂ l₃ l₄ l₅ : List ℕ} {a b c d e : ℕ} → length u + length n + length v + length p + length w ≤ length s
-    → (a ≡ 0 + length u) × (l₁ ≡ stored s 0 u)
-    → (b ≡ a + length n) × (l₂ ≡ stored l₁ a n)
-    → (c ≡ b + length v) × (l₃ ≡ stored l₂ b v)
-    → (d ≡ c + length p) × (l₄ ≡ stored l₃ c p)
-    → (e ≡ d + length w) × (l₅ ≡ stored l₄ d w)
-    → (e ≡ length (u ++ n ++ v ++ p ++ w)) × (l₅ ≡ stored s 0 (u ++ n ++ v ++ p ++ w))
+    → Added s 0 u l₁ a
+    → Added l₁ a n l₂ b
+    → Added l₂ b v l₃ c
+    → Added l₃ c p l₄ d
+    → Added l₄ d w l₅ e
+    → Added s 0 (u ++ n ++ v ++ p ++ w) l₅ e
 line s u n v p w h f₁ f₂ f₃ f₄ f₅ =
-    let g₁ = step s [] u (omega arith) (refl, sym (stored-none s 0)) f₁ in
-    let g₂ = step s u n (omega arith) g₁ f₂ in
+    let g₂ = step s u n (omega arith) f₁ f₂ in
     let g₃ = step s (u ++ n) v (simp length-append (omega arith)) g₂ f₃ in
     let g₄ = step s ((u ++ n) ++ v) p (simp length-append (omega arith)) g₃ f₄ in
     let g₅ = step s (((u ++ n) ++ v) ++ p) w (simp length-append (omega arith)) g₄ f₅ in
     let q : (((u ++ n) ++ v) ++ p) ++ w ≡ u ++ n ++ v ++ p ++ w = simp append-assoc in
-    (g₅ .0 ∙ ap length q, g₅ .1 ∙ ap (stored s 0) q)
+    renamed q g₅
 
-pub few : (n k : ℕ) → n < 18446744073709551616 → Fewest 10 1 n k → k ≤ 20
-few n k h f =
-    ⊎-elim
-    (λ g. g)
-    (λ g.
-    let o : 20 ≤ k - 1 = omega arith in
-    let p : 10 ^ 20 ≤ 10 ^ (k - 1) = pow-le-pow-right (lit< tt) o in
-    let q : 100000000000000000000 ≤ n = le-trans p (f .2 (omega arith)) in
-    omega (arith, q))
-    (fit k 20)
+-- what was stored at the front is the part of that length
+pub read-back : (s w : List ℕ) {l p : List ℕ} {r : ℕ} → r ≤ length s → Added s 0 w l r → p ≡ part-at l 0 r → p ≡ w
+read-back s w h f e =
+    let z = f .ends in
+    e ∙ ap₂ (λ (t : List ℕ) (n : ℕ). part-at t 0 n) (f .holds) (omega arith) ∙ part-stored s 0 w (omega arith)

@@ -9,7 +9,9 @@
 // then nothing goes to standard output. The exit status is always 0, since a program in Rattle has no other; `./sf` gives one.
 //
 // Of an input one byte more is read than any that is accepted has. An operation refuses so many bytes as it would refuse all of them.
-// The slices lie on the stack; 512 KiB of it are enough.
+// The slices lie on the stack, and so do the calls, which nest as the input does, up to 32 deep.
+// 640 KiB of stack are enough, 64 of them for the words and the environment that the program is started with.
+// This is measured and not proved: tools/try_commands reads the number here and runs the deepest inputs in so much.
 mod input;
 mod output;
 
