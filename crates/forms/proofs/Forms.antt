@@ -9,7 +9,7 @@ use lib.Dec.{eqb}
 use borrow.Author.Tests.{eq-eqb, ne-eqb}
 use Rattle.paper.specs.TableDecoder.{in-table}
 use Rattle.paper.specs.StepDecoder.{in-steps}
-use Rattle.theorems.proofs.Laws.DecodeAt.{word, raw-at}
+use Rattle.paper.specs.DecodeAt.{word, raw-at}
 use Rattle.memory.specs.Memory.{word-at}
 use Rattle.memory.proofs.Laws.{word-in}
 use Rattle.forms.specs.declared.form.Form.{Form}

@@ -12,10 +12,11 @@ use borrow.Author.Tests.{le-leb, lt-leb, eq-eqb, ne-eqb}
 use Rattle.paper.specs.Maybe.{_>>=_, require}
 use Rattle.paper.specs.Decoder.{Cursor, header}
 use Rattle.paper.specs.Decoder as Decoder
-use Rattle.theorems.proofs.Decoded.Header.{headed, header-sound}
+use Rattle.theorems.proofs.Decoded.Header.{header-sound}
 use Rattle.theorems.proofs.Decoded.Parts.{length-little}
 use Rattle.theorems.proofs.Laws.Found.{found-some}
-use Rattle.theorems.proofs.Laws.DecodeAt.{Bytes, cursor, number-at}
+use Rattle.theorems.proofs.Laws.DecodeAt.{Bytes, number-at}
+use Rattle.paper.specs.DecodeAt.{cursor, headed}
 use Rattle.memory.specs.Memory.{word-at, part-at}
 use Rattle.memory.proofs.Laws.{word-in, part-in}
 use Rattle.forms.specs.declared.form.Form.{Form}

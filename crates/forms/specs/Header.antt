@@ -5,7 +5,7 @@ use mathlib.Core.List.{List}
 use mathlib.Core.Option.{Option, none, some}
 use lib.ListN.{length, take, drop}
 use Rattle.paper.specs.Decoder.{Cursor, header}
-use Rattle.theorems.proofs.Laws.DecodeAt.{cursor}
+use Rattle.paper.specs.DecodeAt.{cursor}
 use Rattle.memory.specs.Memory.{word-at, part-at}
 use Rattle.forms.specs.declared.form.Form.{Form}
 use Rattle.forms.specs.declared.header.Size.{Size}

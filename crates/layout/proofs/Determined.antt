@@ -7,7 +7,7 @@ use mathlib.Core.Option.{Option, Option·some-injective}
 use lib.ListN.{length, length-drop}
 use denote.Ref.{now}
 use Rattle.paper.specs.Decoder.{Cursor}
-use Rattle.theorems.proofs.Laws.DecodeAt.{cursor}
+use Rattle.paper.specs.DecodeAt.{cursor}
 use Rattle.paper.specs.Determines.{Determines, _&_}
 use Rattle.layout.specs.Walk.{WalkIs, Inside}
 use Rattle.layout.specs.declared.walk.Walk.{Walk}

@@ -9,7 +9,7 @@ use lib.Seq.{drop-cons}
 use Rattle.paper.specs.Scanner.{empty}
 use Rattle.paper.specs.Maybe.{_>>=_, require}
 use Rattle.paper.specs.Decoder.{ended}
-use Rattle.theorems.proofs.Laws.DecodeAt.{cursor}
+use Rattle.paper.specs.DecodeAt.{cursor}
 
 pub empty-yes : (s : List ℕ) (i : ℕ) → length s ≤ i → empty (drop i s) ≡ true
 empty-yes s i h = rw (drop-of-length-le s h)

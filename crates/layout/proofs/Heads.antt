@@ -12,8 +12,10 @@ use borrow.Author.Tests.{leb-true, le-leb, lt-leb}
 use Rattle.paper.specs.Maybe.{_>>=_, require}
 use Rattle.paper.specs.Syntax.{_∷ⱽ_}
 use Rattle.paper.specs.Decoder.{record-at}
-use Rattle.theorems.proofs.Laws.DecodeAt.{Bytes, word, raw-at, cursor, record-here, record-short}
-use Rattle.theorems.proofs.Laws.DecodeFree.{basic-from, elements-from, element-body, elements-some}
+use Rattle.theorems.proofs.Laws.DecodeAt.{Bytes, record-here, record-short}
+use Rattle.paper.specs.DecodeAt.{word, raw-at, cursor}
+use Rattle.theorems.proofs.Laws.DecodeFree.{element-body, elements-some}
+use Rattle.paper.specs.DecodeFrom.{basic-from, elements-from}
 use Rattle.memory.proofs.Laws.{fit}
 use Rattle.forms.specs.declared.form.Form.{Form}
 use Rattle.forms.specs.Form.{form-of, size-of, fields, fits-in}

@@ -13,8 +13,10 @@ use Rattle.paper.specs.Bytes.{if_then_else_}
 use Rattle.paper.specs.Maybe.{_>>=_, require}
 use Rattle.paper.specs.Syntax.{vector, εⱽ, _∷ⱽ_}
 use Rattle.paper.specs.Decoder.{Cursor}
-use Rattle.theorems.proofs.Laws.DecodeAt.{Bytes, word, raw-at, cursor}
-use Rattle.theorems.proofs.Laws.DecodeFree.{basic-from, basic-body, basic-is, elements-none}
+use Rattle.theorems.proofs.Laws.DecodeAt.{Bytes}
+use Rattle.paper.specs.DecodeAt.{word, raw-at, cursor}
+use Rattle.theorems.proofs.Laws.DecodeFree.{basic-body, basic-is, elements-none}
+use Rattle.paper.specs.DecodeFrom.{basic-from}
 use Rattle.memory.specs.Memory.{word-at}
 use Rattle.memory.proofs.Laws.{word-in}
 use Rattle.forms.specs.declared.form.Form.{Form}

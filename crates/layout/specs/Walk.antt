@@ -9,8 +9,8 @@ use lib.Dec.{leb}
 use Rattle.paper.specs.Maybe.{_>>=_}
 use Rattle.paper.specs.Syntax.{Basic, Basics}
 use Rattle.paper.specs.Decoder.{Cursor, record-at}
-use Rattle.theorems.proofs.Laws.DecodeAt.{word, cursor}
-use Rattle.theorems.proofs.Laws.DecodeFree.{basic-from, elements-from}
+use Rattle.paper.specs.DecodeAt.{word, cursor}
+use Rattle.paper.specs.DecodeFrom.{basic-from, elements-from}
 use Rattle.forms.specs.declared.form.Form.{Form}
 use Rattle.layout.specs.declared.walk.Walk.{Walk}
 use Rattle.layout.specs.declared.walk.Walk.the-variants.{Walked, Wrong}

@@ -9,9 +9,8 @@ use lib.ListN.{length, take, drop, getD, length-append}
 use borrow.Author.Tests.{le-leb, lt-leb, eq-eqb, ne-eqb, lt-ltb, le-ltb}
 use Rattle.paper.specs.Bytes.{if_then_else_}
 use Rattle.paper.specs.Layout.{little}
-use Rattle.theorems.proofs.Decoded.Header.{headed}
 use Rattle.theorems.proofs.Decoded.Parts.{length-little}
-use Rattle.theorems.proofs.Laws.DecodeAt.{word}
+use Rattle.paper.specs.DecodeAt.{word, headed}
 use Rattle.memory.specs.Memory.{word-at, part-at, stored}
 use Rattle.memory.proofs.Laws.{word-in, part-in, length-own, stored-none, then-stored}
 use Rattle.main_table.specs.Lower.{moved-label, moved-value, lowered, lowered-all, text-from, text-to, lowered-table}

@@ -25,9 +25,10 @@ use Rattle.paper.specs.TableDecoder.{in-table, absent, table-of}
 use Rattle.forms.specs.declared.form.Form.the-variants.{Table}
 use Rattle.forms.specs.Form.{form-of, number-of, size-of, most-text}
 use Rattle.forms.specs.Header.{header-in}
-use Rattle.theorems.proofs.Decoded.Header.{headed, records-length, laid-out-headed}
+use Rattle.theorems.proofs.Decoded.Header.{records-length, laid-out-headed}
 use Rattle.theorems.proofs.Decoded.Rows.{Front}
-use Rattle.theorems.proofs.Laws.DecodeAt.{Bytes, word, cursor}
+use Rattle.theorems.proofs.Laws.DecodeAt.{Bytes}
+use Rattle.paper.specs.DecodeAt.{word, cursor, headed}
 use Rattle.theorems.proofs.Laws.DecodeFree.{entries-none, table-of-is}
 use Rattle.memory.specs.Memory.{word-at, stored}
 use Rattle.memory.proofs.Laws.{word-in, stored-front}

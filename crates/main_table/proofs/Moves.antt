@@ -14,7 +14,7 @@ use Rattle.paper.specs.Store.{Store, ∅, entry, Value, component}
 use Rattle.paper.specs.Store as S
 use Rattle.paper.specs.Layout.{little, Field, number, text, Row, kind, content, elements, each, table-row, rows, value-rows, name-text, deepest, text-of, row-text, texts, figure, row-bytes, records}
 use Rattle.theorems.proofs.Decoded.Parts.{length-little}
-use Rattle.theorems.proofs.Laws.DecodeAt.{word}
+use Rattle.paper.specs.DecodeAt.{word}
 use Rattle.main_table.specs.Lower.{moved-label, moved-value, lowered, lowered-all}
 use Rattle.main_table.proofs.Lowers.{label-none, label-some, value-low, value-high, value-text}
 use Rattle.memory.proofs.Laws.{word-little, same-word}

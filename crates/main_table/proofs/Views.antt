@@ -18,8 +18,9 @@ use Rattle.paper.specs.Decoder.{Cursor, ended}
 use Rattle.paper.specs.TableDecoder.{in-table, absent, distinct, table-of}
 use Rattle.theorems.proofs.Decoded.Header.{ended-sound}
 use Rattle.theorems.proofs.Laws.Found.{found-some}
-use Rattle.theorems.proofs.Laws.DecodeAt.{Bytes, word, raw-at, cursor}
-use Rattle.theorems.proofs.Laws.DecodeFree.{basic-from, entries-from, entry-value}
+use Rattle.theorems.proofs.Laws.DecodeAt.{Bytes}
+use Rattle.paper.specs.DecodeAt.{word, raw-at, cursor}
+use Rattle.paper.specs.DecodeFrom.{basic-from, entries-from, entry-value}
 use Rattle.table.specs.Walk.{value-here, entries-here}
 use Rattle.table.specs.Child.{Holds}
 use Rattle.forms.specs.declared.form.Form.the-variants.{Table}

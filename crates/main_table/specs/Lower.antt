@@ -7,8 +7,7 @@ use lib.ListN.{length, take, drop, getD}
 use lib.Dec.{leb, ltb, eqb}
 use Rattle.paper.specs.Bytes.{if_then_else_}
 use Rattle.paper.specs.Layout.{little}
-use Rattle.theorems.proofs.Decoded.Header.{headed}
-use Rattle.theorems.proofs.Laws.DecodeAt.{word}
+use Rattle.paper.specs.DecodeAt.{word, headed}
 
 -- a name's place; 65,535 is none
 unfoldable pub moved-label : ℕ → ℕ → ℕ

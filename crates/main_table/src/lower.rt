@@ -14,7 +14,7 @@ ghost use mathlib.Core.List.{_++_};
 ghost use Prim.Native.Nat.{_+_, _-_, _*_, _≤_, _<_};
 ghost use lib.ListN.{length};
 ghost use Rattle.paper.specs.Layout.{little};
-ghost use Rattle.theorems.proofs.Laws.DecodeAt.{word};
+ghost use Rattle.paper.specs.DecodeAt.{word};
 ghost use Rattle.memory.specs.Memory.{stored};
 ghost use Rattle.main_table.specs.Lower.{moved-label, moved-value, lowered, lowered-all, text-from, text-to, lowered-table, Lowerable};
 

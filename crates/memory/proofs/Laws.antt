@@ -12,7 +12,8 @@ use lib.Dec.{leb, lit<}
 use borrow.Author.Tests.{le-leb, lt-leb, leb-true, leb-false, not-true, not-false}
 use Rattle.paper.specs.Layout.{little}
 use Rattle.paper.specs.Lent.{zeros, wiped}
-use Rattle.theorems.proofs.Laws.DecodeAt.{Bytes, word}
+use Rattle.theorems.proofs.Laws.DecodeAt.{Bytes}
+use Rattle.paper.specs.DecodeAt.{word}
 use Rattle.theorems.proofs.Decoded.Parts.{length-little}
 use Rattle.memory.specs.Memory.{within, word-at, part-at, stored, slid}
 

@@ -10,7 +10,7 @@ use lib.Seq.{sets, drop-cons, take-suc, getD-drop, drop-set-lt, drop-set-add, ta
 use lib.Dec.{lit<}
 use Rattle.paper.specs.Layout.{little}
 use Rattle.paper.specs.Lent.{zeros}
-use Rattle.theorems.proofs.Laws.DecodeAt.{word}
+use Rattle.paper.specs.DecodeAt.{word}
 
 -- the first of what is left goes to its place
 pub turn : {b c t : List ℕ} {v : ℕ} (s : List ℕ) (p q : ℕ) → q ≡ suc p → sets s p b ≡ t → b ≡ v ∷ c → sets (set s p v) q c ≡ t

@@ -23,6 +23,8 @@ pub mod WellFormed
 pub mod Decoder
 pub mod TableDecoder
 pub mod StepDecoder
+pub mod DecodeAt
+pub mod DecodeFrom
 -- lent slices, Refusal numbers
 pub mod Lent
 -- what each operation answers, demands 2 and 3

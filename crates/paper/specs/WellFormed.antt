@@ -67,11 +67,15 @@ abbrev mutual
   IsValue (S.basic b) = IsBasic b
   IsValue (component s) = IsStore s
 
+-- such a store, with "all limits kept"
+pub record IsBounded (s : Store) : Type 0 where
+  pub store : IsStore s
+  pub bounds : Bounded s
+
 -- the bytes b are the table of the store s: "exactly this, the input slice as long as its total length, all limits kept"
 pub record IsTable (b : List ℕ) (s : Store) : Type 0 where
   pub laid-out : b ≡ table s
-  pub store : IsStore s
-  pub bounds : Bounded s
+  pub held : IsBounded s
 
 -- ---- step lists
 

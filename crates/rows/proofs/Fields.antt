@@ -8,7 +8,7 @@ use lib.ListN.{length, getD, length-append}
 use borrow.Author.Tests.{le-leb, lt-leb}
 use Rattle.paper.specs.Bytes.{if_then_else_}
 use Rattle.paper.specs.Layout.{little}
-use Rattle.theorems.proofs.Laws.DecodeAt.{word}
+use Rattle.paper.specs.DecodeAt.{word}
 use Rattle.theorems.proofs.Decoded.Parts.{length-little}
 use Rattle.memory.specs.Memory.{word-at, stored}
 use Rattle.memory.proofs.Laws.{word-in, stored-out, then-stored}

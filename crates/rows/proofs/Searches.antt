@@ -14,12 +14,13 @@ use borrow.Author.Tests.{lt-ltb, le-ltb, eq-eqb, ne-eqb}
 use Rattle.paper.specs.Bytes.{if_then_else_}
 use Rattle.paper.specs.Syntax.{Name}
 use Rattle.paper.specs.Layout.{Row, deepest}
-use Rattle.theorems.proofs.Laws.DecodeAt.{word}
+use Rattle.paper.specs.DecodeAt.{word}
 use Rattle.memory.proofs.Laws.{fit}
 use Rattle.rows.specs.View.{label-of, kept, rows-in}
 use Rattle.rows.specs.Search.{calls, seek, deeper, text-bytes}
 use Rattle.rows.proofs.Fields.{field-word}
-use Rattle.rows.proofs.Views.{row-here, view-cons, view-end}
+use Rattle.rows.proofs.Views.{view-cons, view-end}
+use Rattle.rows.specs.Change.{row-here}
 
 -- ---- the first of some rows
 

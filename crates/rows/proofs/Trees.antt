@@ -15,7 +15,7 @@ use Rattle.paper.specs.Store.{Store, ∅, entry, Value, basic, component, put, 
 use Rattle.paper.specs.Layout.{Field, number, text, Row, table-row, name-text, kind, content, elements, each, rows, value-rows, text-of, row-text, texts, deepest}
 use Rattle.rows.specs.Search.{calls, seek, deeper, text-bytes}
 use Rattle.rows.specs.Change.{moved}
-use Rattle.rows.specs.Flat.{sized, flat, flat-value, Low}
+use Rattle.rows.specs.Flat.{sized, flat, flat-value, below, all-below, Low}
 
 -- ---- rows of a store
 
@@ -71,13 +71,6 @@ deep-++ d (x ∷ xs) ys h g = (h .0, deep-++ d xs ys (h .1) g)
 deep-less : (d e : ℕ) (xs : List Row) → d ≤ e → Deep e xs → Deep d xs
 deep-less d e [] l h = tt
 deep-less d e (x ∷ xs) l h = (omega (arith, h .0), deep-less d e xs l (h .1))
-
--- the rows of a vector's elements
-abbrev pub below : ℕ → Basic → List Row
-below d b = map sized (elements (table-row (number 65535)) d b)
-
-abbrev pub all-below : ℕ → Basics → List Row
-all-below d bs = map sized (each (table-row (number 65535)) d bs)
 
 pub all-below-more : (d : ℕ) (b : Basic) (bs : Basics) → all-below d (b ∷ⱽ bs) ≡ line (number 65535) (kind b) d (content b) ∷ (below d b ++ all-below d bs)
 unfolding each line sized table-row row-text

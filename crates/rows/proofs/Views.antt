@@ -12,12 +12,13 @@ use lib.Dec.{leb}
 use borrow.Author.Tests.{le-leb, lt-leb}
 use Rattle.paper.specs.Bytes.{if_then_else_}
 use Rattle.paper.specs.Layout.{Row, text-of, little}
-use Rattle.theorems.proofs.Laws.DecodeAt.{Bytes, word}
+use Rattle.theorems.proofs.Laws.DecodeAt.{Bytes}
+use Rattle.paper.specs.DecodeAt.{word}
 use Rattle.theorems.proofs.Decoded.Parts.{length-little}
 use Rattle.memory.specs.Memory.{stored, slid}
 use Rattle.memory.proofs.Laws.{same-word, word-below, word-little, length-own, length-stored, stored-in, slid-in, slid-out, fit}
 use Rattle.rows.specs.View.{label-of, value-of, seen, groups, view, kept}
-use Rattle.rows.specs.Change.{field-at, row-bytes, row-stored, fits-in, spliced, moved, lifted, lifts-in, lift-stored}
+use Rattle.rows.specs.Change.{field-at, row-here, row-bytes, row-stored, fits-in, spliced, moved, lifted, lifts-in, lift-stored}
 use Rattle.rows.proofs.Fields.{field-word, length-row, row-in}
 use Rattle.rows.proofs.Groups.{length-groups, groups-cons, groups-end, groups-append, groups-front, groups-own, groups-splice}
 use Rattle.rows.proofs.Changes.{fit-spliced, lifted-is, length-lifted}
@@ -42,19 +43,6 @@ unfolding view
 length-view t u w n = length-groups 16 (seen t u) w n
 
 -- ---- one row
-
--- the row at index i, by its numbers
-unfoldable pub row-here : List ℕ → List ℕ → List ℕ → ℕ → Row
-row-here t u w i =
-    let l = label-of t u (field-at 2 w i 4) in
-    record {
-      first = field-at 2 w i 0;
-      second = field-at 2 w i 2;
-      label = l;
-      span = field-at 2 w i 6;
-      value = value-of t u (field-at 2 w i 0) (field-at 8 w i 8) (field-at 2 w i 6 - length (text-of l));
-      last = [];
-    }
 
 -- a number in a row's own bytes stands in the slice
 row-word : (w : List ℕ) (b n f : ℕ) → f + n ≤ 16 → word n (take 16 (drop b w)) f ≡ word n w (b + f)

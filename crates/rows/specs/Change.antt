@@ -5,12 +5,26 @@ use mathlib.Core.List.{List, [], _++_}
 use lib.ListN.{length, take, drop}
 use lib.Dec.{leb}
 use Rattle.paper.specs.Bytes.{if_then_else_}
-use Rattle.paper.specs.Layout.{little}
+use Rattle.paper.specs.Layout.{Row, text-of, little}
 use Rattle.memory.specs.Memory.{word-at, stored, slid}
+use Rattle.rows.specs.View.{label-of, value-of}
 
 -- a number of the row at index i: n bytes from byte f of the row on; 0 where no work slice has such a row
 unfoldable pub field-at : ℕ → List ℕ → ℕ → ℕ → ℕ
 field-at n w i f = if leb i 4095 then word-at n w (i * 16 + f) else 0
+
+-- the row at index i, by its numbers
+unfoldable pub row-here : List ℕ → List ℕ → List ℕ → ℕ → Row
+row-here t u w i =
+    let l = label-of t u (field-at 2 w i 4) in
+    record {
+      first = field-at 2 w i 0;
+      second = field-at 2 w i 2;
+      label = l;
+      span = field-at 2 w i 6;
+      value = value-of t u (field-at 2 w i 0) (field-at 8 w i 8) (field-at 2 w i 6 - length (text-of l));
+      last = [];
+    }
 
 -- a row's bytes: kind, depth, place of the name, text bytes, value
 unfoldable pub row-bytes : ℕ → ℕ → ℕ → ℕ → ℕ → List ℕ

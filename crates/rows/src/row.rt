@@ -7,7 +7,7 @@ use memory::put64;
 ghost use mathlib.Core.Path.{_≡_};
 ghost use Prim.Native.Nat.{_+_, _*_, _≤_, _<_};
 ghost use lib.ListN.{length};
-ghost use Rattle.theorems.proofs.Laws.DecodeAt.{word};
+ghost use Rattle.paper.specs.DecodeAt.{word};
 ghost use Rattle.rows.specs.Change.{field-at, row-bytes, row-stored};
 
 // The index of the last row that a work slice has room for.

@@ -17,10 +17,10 @@ use Rattle.paper.specs.Meaning.{copy}
 use Rattle.paper.specs.Layout.{Field, number, text, Row, name-text, rows, deepest, texts}
 use Rattle.rows.specs.View.{view, rows-in, label-of, label-text, name-of, seen, groups}
 use Rattle.rows.specs.Search.{deeper, text-bytes}
-use Rattle.rows.specs.Change.{field-at}
+use Rattle.rows.specs.Change.{field-at, row-here}
 use Rattle.rows.specs.Flat.{flat, flat-value, Low}
 use Rattle.rows.proofs.Groups.{groups-drop, groups-take, groups-own}
-use Rattle.rows.proofs.Views.{length-view, row-here, here-label, view-cons, view-end}
+use Rattle.rows.proofs.Views.{length-view, here-label, view-cons, view-end}
 use Rattle.rows.proofs.Trees.{head, beneath, flat-head, flat-entry, flat-none, head-label, deeper-value, low-rest, deepest-flat, text-bytes-flat, length-flat}
 use Rattle.run.specs.declared.place.Place.{Place}
 use Rattle.run.specs.declared.place.Place.the-variants.{In, Absent, NoComponent}

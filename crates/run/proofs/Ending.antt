@@ -14,7 +14,7 @@ use Rattle.paper.specs.Meaning.{B⟦_⟧}
 use Rattle.paper.specs.Layout.{Row, table}
 use Rattle.paper.specs.Steps.{steps}
 use Rattle.paper.specs.Running.{run}
-use Rattle.paper.specs.WellFormed.{IsTable, IsStepList}
+use Rattle.paper.specs.WellFormed.{IsTable, IsStepList, IsBounded}
 use Rattle.paper.specs.TableDecoder.{table-of}
 use Rattle.paper.specs.StepDecoder.{block-of}
 use Rattle.paper.specs.Operations.{or-refused, run-op, runs}
@@ -27,7 +27,7 @@ use Rattle.theorems.proofs.Laws.Answers.{assoc, under}
 use Rattle.theorems.proofs.Laws.Gives.{Gives, gives, known, gives-bind}
 use Rattle.theorems.proofs.Laws.Wiped.{cleared-wiped, high-other}
 use Rattle.paper.specs.Bounds.{Bounded}
-use Rattle.theorems.proofs.Legal.Bounds.{IsBounded, of-table, evaluates, evaluates-numbers}
+use Rattle.theorems.proofs.Legal.Bounds.{of-table, evaluates, evaluates-numbers}
 use Rattle.memory.specs.Memory.{stored}
 use Rattle.memory.proofs.Laws.{clear-wiped, length-stored}
 use Rattle.forms.specs.Header.{text-of}

@@ -20,7 +20,7 @@ use Rattle.paper.specs.StepLayout.{step-row, item, step-rows, all-rows}
 use Rattle.paper.specs.WellFormed.{IsPath, IsPlace, IsBasic, IsBlock, IsStatement, IsValueOf, ArePrototypes}
 use Rattle.theorems.proofs.Decoded.Parts.{length-little}
 use Rattle.theorems.proofs.Laws.Answers.{assoc, under}
-use Rattle.theorems.proofs.Laws.DecodeAt.{word}
+use Rattle.paper.specs.DecodeAt.{word}
 use Rattle.memory.specs.Memory.{word-at, stored}
 use Rattle.memory.proofs.Laws.{word-in, same-word, byte-stored, length-stored, word-little}
 use Rattle.rows.specs.View.{view, label-text}

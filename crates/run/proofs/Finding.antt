@@ -9,7 +9,7 @@ use lib.Seq.{drop-at, take-at, drop-cons, take-all, take-take}
 use Rattle.paper.specs.Syntax.{Name, Path}
 use Rattle.paper.specs.Store.{Store, Value, component, put, lookup, find, resolve-in}
 use Rattle.paper.specs.Layout.{Row}
-use Rattle.theorems.proofs.Laws.DecodeAt.{word}
+use Rattle.paper.specs.DecodeAt.{word}
 use Rattle.memory.specs.Memory.{word-at}
 use Rattle.rows.specs.declared.search.Found.{Found}
 use Rattle.rows.specs.declared.search.Found.the-variants.{At, Nothing}

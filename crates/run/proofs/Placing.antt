@@ -11,7 +11,7 @@ use Rattle.paper.specs.Syntax.{Name, Path}
 use Rattle.paper.specs.Layout.{little, name-text, names-text, path-text}
 use Rattle.paper.specs.WellFormed.{IsPath}
 use Rattle.theorems.proofs.Decoded.Parts.{length-little}
-use Rattle.theorems.proofs.Laws.DecodeAt.{word}
+use Rattle.paper.specs.DecodeAt.{word}
 use Rattle.memory.specs.Memory.{word-at, part-at, stored}
 use Rattle.memory.proofs.Laws.{word-little, part-in, part-other, length-stored, stored-in, stored-none, then-stored}
 use Rattle.rows.specs.View.{byte-of, label-text, name-of, groups}

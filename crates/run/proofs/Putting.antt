@@ -14,12 +14,13 @@ use Rattle.paper.specs.Store.{Store, ∅, Value, put, lookup}
 use Rattle.paper.specs.Layout.{Row, deepest}
 use Rattle.rows.specs.View.{view, rows-in}
 use Rattle.rows.specs.Search.{seek, deeper, text-bytes}
-use Rattle.rows.specs.Change.{spliced}
+use Rattle.rows.specs.Change.{spliced, row-here}
 use Rattle.rows.specs.Flat.{flat, flat-value, Low}
 use Rattle.rows.proofs.Searches.{deeper-in}
 use Rattle.rows.proofs.Fields.{field-word}
-use Rattle.rows.proofs.Views.{length-view, row-here, here-size, view-cons, view-end, view-splice}
-use Rattle.theorems.proofs.Laws.DecodeAt.{Bytes, word}
+use Rattle.rows.proofs.Views.{length-view, here-size, view-cons, view-end, view-splice}
+use Rattle.theorems.proofs.Laws.DecodeAt.{Bytes}
+use Rattle.paper.specs.DecodeAt.{word}
 use Rattle.memory.proofs.Laws.{word-below}
 use Rattle.rows.proofs.Trees.{head, beneath, flat-head, head-depth, deep-flat, deeper-deep, deeper-low, deeper-value, Spot, Spot.absent, Spot.present, spot, text-bytes-++, deepest-++}
 use Rattle.run.specs.declared.put.Size.{Size}

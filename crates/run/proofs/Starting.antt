@@ -154,32 +154,32 @@ module _ (b : List ℕ) (s : Store) (h : IsTable b s) where
 
   table-records : records-of Table b ≡ records 0 (rows 1 s)
   unfolding records-of size-of form-of in-table table
-  table-records = rw (h .laid-out) (recs-there 2 16 (rows 1 s) table-long (omega arith) (h .bounds .nodes) (omega (arith, h .bounds .text)))
+  table-records = rw (h .laid-out) (recs-there 2 16 (rows 1 s) table-long (omega arith) (h .held .bounds .nodes) (omega (arith, h .held .bounds .text)))
 
   table-text : text-of b ≡ texts (rows 1 s)
   unfolding text-of table
-  table-text = rw (h .laid-out) (text-there 2 16 (rows 1 s) table-long (omega arith) (h .bounds .nodes) (omega (arith, h .bounds .text)))
+  table-text = rw (h .laid-out) (text-there 2 16 (rows 1 s) table-long (omega arith) (h .held .bounds .nodes) (omega (arith, h .held .bounds .text)))
 
   pub table-light : length (text-of b) ≤ 16384
-  table-light = omega (arith, ap length table-text, h .bounds .text)
+  table-light = omega (arith, ap length table-text, h .held .bounds .text)
 
   module _ (w : List ℕ) (room : 65536 ≤ length w) (n : ℕ) (en : n ≡ loads (records-of Table b) w) where
     fits : length (records-of Table b) ≤ length w
-    fits = omega (arith, ap length table-records, table-long, h .bounds .nodes)
+    fits = omega (arith, ap length table-records, table-long, h .held .bounds .nodes)
 
     rows-many : n ≡ length (rows 1 s)
-    rows-many = en ∙ load-count s (records-of Table b) (text-of b) w (h .store) (h .bounds .depth) (h .bounds .nodes) (h .bounds .text) table-records table-text fits
+    rows-many = en ∙ load-count s (records-of Table b) (text-of b) w (h .held .store) (h .held .bounds .depth) (h .held .bounds .nodes) (h .held .bounds .text) table-records table-text fits
 
     pub rows-few : n ≤ 1024
-    rows-few = omega (arith, rows-many, h .bounds .nodes)
+    rows-few = omega (arith, rows-many, h .held .bounds .nodes)
 
     -- whatever the first text is
     pub table-held : (t w₁ : List ℕ) → w₁ ≡ load-stored (records-of Table b) (text-of b) w → Held (view t (text-of b) w₁ n) (length (text-of b)) s
     table-held t w₁ e =
-        let v = load-view s (records-of Table b) (text-of b) w (h .store) (h .bounds .depth) (h .bounds .nodes) (h .bounds .text) table-records table-text fits t in
+        let v = load-view s (records-of Table b) (text-of b) w (h .held .store) (h .held .bounds .depth) (h .held .bounds .nodes) (h .held .bounds .text) table-records table-text fits t in
         let q : view t (text-of b) w₁ n ≡ _ = ap (λ x. view t (text-of b) x n) e ∙ ap (view t (text-of b) (load-stored (records-of Table b) (text-of b) w)) rows-many ∙ v in
         record {
           rows = q;
           bytes = ap length table-text ∙ sym (text-bytes-flat 1 s) ∙ ap text-bytes (sym q);
-          bounds = h .bounds;
+          bounds = h .held .bounds;
         }

@@ -13,16 +13,17 @@ use Rattle.paper.specs.Bytes.{if_then_else_}
 use Rattle.paper.specs.Syntax.{Name}
 use Rattle.paper.specs.Store.{Store, Value, basic, component}
 use Rattle.paper.specs.Layout.{Field, number, text, Row, name-text, text-of, row-text, table-row, kind, content, deepest}
-use Rattle.theorems.proofs.Laws.DecodeAt.{Bytes, word}
+use Rattle.theorems.proofs.Laws.DecodeAt.{Bytes}
+use Rattle.paper.specs.DecodeAt.{word}
 use Rattle.memory.specs.Memory.{part-at, stored, within}
 use Rattle.memory.proofs.Laws.{word-below, stored-in, length-stored}
 use Rattle.rows.specs.View.{groups, view, rows-in, byte-of, text-part, label-of, label-text, value-of}
 use Rattle.rows.specs.Search.{deeper, text-bytes}
-use Rattle.rows.specs.Change.{field-at, moved, row-bytes, row-stored, lift-stored, lifts-in, lifted}
+use Rattle.rows.specs.Change.{field-at, moved, row-bytes, row-stored, lift-stored, lifts-in, lifted, row-here}
 use Rattle.rows.specs.Flat.{sized, flat, flat-value, Low}
 use Rattle.rows.proofs.Fields.{field-word, length-row}
 use Rattle.rows.proofs.Changes.{length-lifted}
-use Rattle.rows.proofs.Views.{length-view, row-here, here-seen, seen-row, view-cons, view-row, view-lift, length-row-stored, length-lift}
+use Rattle.rows.proofs.Views.{length-view, here-seen, seen-row, view-cons, view-row, view-lift, length-row-stored, length-lift}
 use Rattle.rows.proofs.Trees.{line, head, beneath, flat-head, flat-component, head-depth, head-label, deeper-value, text-bytes-++, deepest-++, row-moved, moved-beneath, flat-moved}
 use Rattle.run.specs.Paths.{StandsAt}
 use Rattle.run.proofs.Walking.{rows-view}

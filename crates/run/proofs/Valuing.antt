@@ -25,10 +25,10 @@ use Rattle.memory.specs.Memory.{word-at, part-at, stored}
 use Rattle.memory.proofs.Laws.{fit, word-in, word-out, word-below, length-part, part-out, stored-in, stored-out}
 use Rattle.rows.specs.View.{text-part, label-text, label-of, value-of, groups, view}
 use Rattle.rows.specs.Change.{row-bytes, row-stored}
-use Rattle.rows.specs.Flat.{sized, flat-value}
+use Rattle.rows.specs.Flat.{sized, flat-value, below, all-below}
 use Rattle.rows.proofs.Fields.{length-row, row-in}
 use Rattle.rows.proofs.Texts.{byte-first, part-first}
-use Rattle.rows.proofs.Trees.{line, head, beneath, flat-head, below, all-below, all-below-more}
+use Rattle.rows.proofs.Trees.{line, head, beneath, flat-head, all-below-more}
 use Rattle.rows.proofs.Views.{seen-row, view-row}
 use Rattle.load.specs.Load.{name-size, value-size, size-of}
 use Rattle.load.proofs.Sizes.{name-none, name-some, value-none}

@@ -14,16 +14,16 @@ use Rattle.paper.specs.Bytes.{if_then_else_}
 use Rattle.paper.specs.Syntax.{Name, Path}
 use Rattle.paper.specs.Store.{Store}
 use Rattle.paper.specs.Layout.{Row}
-use Rattle.theorems.proofs.Laws.DecodeAt.{word}
+use Rattle.paper.specs.DecodeAt.{word}
 use Rattle.memory.specs.Memory.{word-at}
 use Rattle.memory.proofs.Laws.{word-in, same-word}
 use Rattle.rows.specs.View.{name-of, groups, view, kept, rows-in}
 use Rattle.rows.specs.Search.{calls, seek}
-use Rattle.rows.specs.Change.{field-at}
+use Rattle.rows.specs.Change.{field-at, row-here}
 use Rattle.rows.specs.Flat.{flat, Low}
 use Rattle.rows.proofs.Searches.{seek-in}
 use Rattle.rows.proofs.Groups.{groups-cons, groups-end}
-use Rattle.rows.proofs.Views.{kept-is, length-view, row-here, view-cons}
+use Rattle.rows.proofs.Views.{kept-is, length-view, view-cons}
 use Rattle.run.specs.declared.place.Place.{Place}
 use Rattle.run.specs.declared.place.Place.the-variants.{In, Absent, NoComponent}
 use Rattle.run.specs.Paths.{names, Descends, DescendsFrom}

@@ -9,7 +9,7 @@ use Rattle.paper.specs.StepLayout.{item}
 use Rattle.paper.specs.WellFormed.{AreBasic}
 use Rattle.rows.specs.View.{view}
 use Rattle.rows.specs.Change.{row-bytes}
-use Rattle.rows.proofs.Trees.{all-below}
+use Rattle.rows.specs.Flat.{all-below}
 use Rattle.load.specs.Load.{size-of}
 use Rattle.run.specs.Listed.{step-field, Lies}
 

@@ -8,7 +8,7 @@ use Rattle.paper.specs.Answer.{Answer, ok, refused}
 use Rattle.paper.specs.Syntax.{Name, Path}
 use Rattle.paper.specs.Store.{Store, Value, component, put, find, resolve-in, bind}
 use Rattle.paper.specs.Layout.{Row}
-use Rattle.theorems.proofs.Laws.DecodeAt.{word}
+use Rattle.paper.specs.DecodeAt.{word}
 use Rattle.rows.specs.View.{name-of, groups}
 use Rattle.rows.specs.Flat.{flat, flat-value, Low}
 use Rattle.rows.specs.declared.search.Found.{Found}

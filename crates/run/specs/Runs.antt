@@ -15,7 +15,7 @@ use Rattle.paper.specs.TableDecoder.{table-of}
 use Rattle.paper.specs.StepDecoder.{block-of}
 use Rattle.paper.specs.Operations.{or-refused}
 use Rattle.paper.specs.Lent.{Outcome, told, written, cleared}
-use Rattle.theorems.proofs.Legal.Bounds.{IsBounded}
+use Rattle.paper.specs.WellFormed.{IsBounded}
 use Rattle.forms.specs.Header.{text-of}
 use Rattle.rows.specs.View.{view}
 use Rattle.rows.specs.Flat.{flat}

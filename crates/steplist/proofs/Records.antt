@@ -13,7 +13,8 @@ use Rattle.paper.specs.Scanner.{empty}
 use Rattle.paper.specs.Maybe.{_>>=_, require}
 use Rattle.paper.specs.Decoder.{Cursor, Raw, record-at}
 use Rattle.paper.specs.StepDecoder.{plain, bare, step-here, stops}
-use Rattle.theorems.proofs.Laws.DecodeAt.{Bytes, word, raw-at, cursor, record-here, record-short}
+use Rattle.theorems.proofs.Laws.DecodeAt.{Bytes, record-here, record-short}
+use Rattle.paper.specs.DecodeAt.{word, raw-at, cursor}
 use Rattle.memory.specs.Memory.{word-at}
 use Rattle.memory.proofs.Laws.{word-in}
 use Rattle.forms.specs.Form.{fields}

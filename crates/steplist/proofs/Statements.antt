@@ -16,8 +16,10 @@ use Rattle.paper.specs.Maybe.{_>>=_, require}
 use Rattle.paper.specs.Syntax.{Block, εᴮ, _∷ᴮ_, assign, Value, Prototypes, εᴾ, block}
 use Rattle.paper.specs.Decoder.{Cursor, Raw, record-at, field, path-of}
 use Rattle.paper.specs.StepDecoder.{plain, bare, stops}
-use Rattle.theorems.proofs.Laws.DecodeAt.{Bytes, word, raw-at, cursor, record-here, record-short}
-use Rattle.theorems.proofs.Laws.DecodeFree.{statements-from, value-from, prototypes-from, statement-body, statements-is, prototype-body, prototypes-is, statements-left, value-left}
+use Rattle.theorems.proofs.Laws.DecodeAt.{Bytes, record-here, record-short}
+use Rattle.paper.specs.DecodeAt.{word, raw-at, cursor}
+use Rattle.theorems.proofs.Laws.DecodeFree.{statement-body, statements-is, prototype-body, prototypes-is, statements-left, value-left}
+use Rattle.paper.specs.DecodeFrom.{statements-from, value-from, prototypes-from}
 use Rattle.memory.specs.Memory.{word-at}
 use Rattle.memory.proofs.Laws.{fit, word-in}
 use Rattle.texts.specs.declared.Past.the-variants.{At, Bad}

@@ -18,8 +18,10 @@ use Rattle.paper.specs.Decoder.{Cursor, Raw, record-at, field, path-of}
 use Rattle.paper.specs.StepDecoder.{in-steps, plain, bare, some-prototype}
 use Rattle.theorems.proofs.Laws.Answers.{if-case}
 use Rattle.theorems.proofs.Laws.Found.{Found, nothing, found, found-bind, found-require, found-some}
-use Rattle.theorems.proofs.Laws.DecodeAt.{Bytes, word, raw-at, cursor, record-here, record-short}
-use Rattle.theorems.proofs.Laws.DecodeFree.{basic-from, statements-from, prototypes-from, value-body, value-is, prototype-body, prototypes-is}
+use Rattle.theorems.proofs.Laws.DecodeAt.{Bytes, record-here, record-short}
+use Rattle.paper.specs.DecodeAt.{word, raw-at, cursor}
+use Rattle.theorems.proofs.Laws.DecodeFree.{value-body, value-is, prototype-body, prototypes-is}
+use Rattle.paper.specs.DecodeFrom.{basic-from, statements-from, prototypes-from}
 use Rattle.memory.specs.Memory.{word-at}
 use Rattle.memory.proofs.Laws.{fit, word-in}
 use Rattle.forms.specs.declared.form.Form.the-variants.{Steps}

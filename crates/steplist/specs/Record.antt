@@ -9,7 +9,7 @@ use lib.Dec.{leb, eqb}
 use Rattle.paper.specs.Maybe.{_>>=_, require}
 use Rattle.paper.specs.Decoder.{record-at}
 use Rattle.paper.specs.StepDecoder.{stops, bare}
-use Rattle.theorems.proofs.Laws.DecodeAt.{word, cursor}
+use Rattle.paper.specs.DecodeAt.{word, cursor}
 
 -- no statement stands at i, wherever the text stands
 abbrev pub StopsIs : List ℕ → ℕ → Bool → Type 0

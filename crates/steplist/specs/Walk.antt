@@ -9,8 +9,8 @@ use Rattle.paper.specs.Maybe.{_>>=_, require}
 use Rattle.paper.specs.Syntax.{Block, Statement, assign, Value, Prototypes, named, block}
 use Rattle.paper.specs.Decoder.{Cursor, Raw, record-at, field, path-of}
 use Rattle.paper.specs.StepDecoder.{plain, bare}
-use Rattle.theorems.proofs.Laws.DecodeAt.{word, raw-at, cursor}
-use Rattle.theorems.proofs.Laws.DecodeFree.{statements-from, value-from, prototypes-from}
+use Rattle.paper.specs.DecodeAt.{word, raw-at, cursor}
+use Rattle.paper.specs.DecodeFrom.{statements-from, value-from, prototypes-from}
 use Rattle.layout.specs.declared.walk.Walk.{Walk}
 use Rattle.layout.specs.declared.walk.Walk.the-variants.{Walked, Wrong}
 use Rattle.layout.specs.Walk.{WalkIs}

@@ -8,8 +8,8 @@ use Rattle.paper.specs.Syntax.{Block}
 use Rattle.paper.specs.Decoder.{ended}
 use Rattle.paper.specs.TableDecoder.{absent}
 use Rattle.paper.specs.StepDecoder.{block-of}
-use Rattle.theorems.proofs.Laws.DecodeFree.{statements-from}
-use Rattle.theorems.proofs.Laws.DecodeAt.{cursor}
+use Rattle.paper.specs.DecodeFrom.{statements-from}
+use Rattle.paper.specs.DecodeAt.{cursor}
 
 unfoldable pub is-step-list-of : List ℕ → Bool
 is-step-list-of b = not (absent (block-of b))

@@ -11,7 +11,7 @@ use texts::path_here;
 ghost use mathlib.Core.Path.{_≡_};
 ghost use Prim.Native.Nat.{_+_, _≤_};
 ghost use lib.ListN.{length};
-ghost use Rattle.theorems.proofs.Laws.DecodeAt.{word};
+ghost use Rattle.paper.specs.DecodeAt.{word};
 ghost use Rattle.layout.specs.Walk.{WalkIs};
 ghost use Rattle.steplist.specs.Walk.{WalkOn, value-here, take-here};
 

@@ -17,8 +17,10 @@ use Rattle.paper.specs.Store.{Store, ∅, entry, Value, component, lookup}
 use Rattle.paper.specs.Store as S
 use Rattle.paper.specs.Decoder.{Cursor}
 use Rattle.paper.specs.TableDecoder.{in-table, absent, distinct}
-use Rattle.theorems.proofs.Laws.DecodeAt.{Bytes, word, raw-at, cursor}
-use Rattle.theorems.proofs.Laws.DecodeFree.{basic-from, entries-none, entry-value}
+use Rattle.theorems.proofs.Laws.DecodeAt.{Bytes}
+use Rattle.paper.specs.DecodeAt.{word, raw-at, cursor}
+use Rattle.theorems.proofs.Laws.DecodeFree.{entries-none}
+use Rattle.paper.specs.DecodeFrom.{basic-from, entry-value}
 use Rattle.layout.proofs.Heads.{and-true}
 use Rattle.table.specs.declared.child.Found.{Found}
 use Rattle.table.specs.declared.child.Found.the-variants.{At, Nothing}

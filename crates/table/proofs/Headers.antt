@@ -11,7 +11,7 @@ use Rattle.paper.specs.Maybe.{_>>=_, require}
 use Rattle.paper.specs.Store.{Store}
 use Rattle.paper.specs.Decoder.{ended}
 use Rattle.paper.specs.TableDecoder.{in-table, absent, distinct, table-of}
-use Rattle.theorems.proofs.Laws.DecodeAt.{cursor}
+use Rattle.paper.specs.DecodeAt.{cursor}
 use Rattle.theorems.proofs.Laws.DecodeFree.{table-of-is}
 use Rattle.forms.specs.declared.form.Form.the-variants.{Table}
 use Rattle.layout.specs.declared.walk.Walk.the-variants.{Walked}

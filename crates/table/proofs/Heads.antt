@@ -13,8 +13,10 @@ use Rattle.paper.specs.Maybe.{_>>=_, require}
 use Rattle.paper.specs.Store.{entry}
 use Rattle.paper.specs.Decoder.{field, name-of}
 use Rattle.paper.specs.TableDecoder.{in-table}
-use Rattle.theorems.proofs.Laws.DecodeAt.{Bytes, word, raw-at, cursor}
-use Rattle.theorems.proofs.Laws.DecodeFree.{basic-from, entries-from, entry-value, entry-body, entries-some}
+use Rattle.theorems.proofs.Laws.DecodeAt.{Bytes}
+use Rattle.paper.specs.DecodeAt.{word, raw-at, cursor}
+use Rattle.theorems.proofs.Laws.DecodeFree.{entry-body, entries-some}
+use Rattle.paper.specs.DecodeFrom.{basic-from, entries-from, entry-value}
 use Rattle.memory.specs.Memory.{word-at}
 use Rattle.memory.proofs.Laws.{fit, word-in}
 use Rattle.forms.specs.declared.form.Form.the-variants.{Table}

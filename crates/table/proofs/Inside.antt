@@ -22,8 +22,9 @@ use Rattle.theorems.proofs.Decoded.Rows.{Took, Front, Fielded, field-sound, bas
 use Rattle.theorems.proofs.Decoded.Table.{table-lawful, EntriesRead, entries-sound}
 use Rattle.theorems.proofs.Laws.Answers.{if-case}
 use Rattle.theorems.proofs.Laws.Found.{found-some}
-use Rattle.theorems.proofs.Laws.DecodeAt.{Bytes, word, raw-at, cursor}
-use Rattle.theorems.proofs.Laws.DecodeFree.{basic-from, entries-from, entry-value}
+use Rattle.theorems.proofs.Laws.DecodeAt.{Bytes}
+use Rattle.paper.specs.DecodeAt.{word, raw-at, cursor}
+use Rattle.paper.specs.DecodeFrom.{basic-from, entries-from, entry-value}
 use Rattle.memory.specs.Memory.{part-at}
 use Rattle.memory.proofs.Laws.{word-below, word-in, part-in}
 use Rattle.table.specs.Walk.{heads, value-here, entries-here}

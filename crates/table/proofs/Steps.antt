@@ -13,8 +13,10 @@ use Rattle.paper.specs.Maybe.{_>>=_, require}
 use Rattle.paper.specs.Store.{∅, entry, component}
 use Rattle.paper.specs.Store as S
 use Rattle.paper.specs.TableDecoder.{in-table}
-use Rattle.theorems.proofs.Laws.DecodeAt.{Bytes, word, raw-at, cursor}
-use Rattle.theorems.proofs.Laws.DecodeFree.{entries-none, entry-value}
+use Rattle.theorems.proofs.Laws.DecodeAt.{Bytes}
+use Rattle.paper.specs.DecodeAt.{word, raw-at, cursor}
+use Rattle.theorems.proofs.Laws.DecodeFree.{entries-none}
+use Rattle.paper.specs.DecodeFrom.{entry-value}
 use Rattle.memory.specs.Memory.{word-at}
 use Rattle.memory.proofs.Laws.{word-in}
 use Rattle.forms.specs.declared.form.Form.the-variants.{Table}

@@ -12,7 +12,7 @@ use Rattle.paper.specs.Syntax.{Name}
 use Rattle.paper.specs.Store.{Store, entry, Value, lookup}
 use Rattle.paper.specs.Decoder.{Cursor}
 use Rattle.paper.specs.TableDecoder.{distinct, distinct-in, absent}
-use Rattle.theorems.proofs.Laws.DecodeAt.{word}
+use Rattle.paper.specs.DecodeAt.{word}
 use Rattle.memory.specs.Memory.{word-at, part-at}
 use Rattle.table.specs.declared.child.Found.{Found}
 use Rattle.table.specs.declared.child.Found.the-variants.{At, Nothing}

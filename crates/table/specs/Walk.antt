@@ -10,8 +10,8 @@ use Rattle.paper.specs.Syntax.{Name}
 use Rattle.paper.specs.Store.{Store, Value}
 use Rattle.paper.specs.Decoder.{Cursor, field, name-of}
 use Rattle.paper.specs.TableDecoder.{in-table}
-use Rattle.theorems.proofs.Laws.DecodeAt.{word, raw-at, cursor}
-use Rattle.theorems.proofs.Laws.DecodeFree.{basic-from, entries-from, entry-value}
+use Rattle.paper.specs.DecodeAt.{word, raw-at, cursor}
+use Rattle.paper.specs.DecodeFrom.{basic-from, entries-from, entry-value}
 use Rattle.forms.specs.declared.form.Form.the-variants.{Table}
 use Rattle.texts.specs.declared.Past.{Past}
 use Rattle.texts.specs.declared.Past.the-variants.{At, Bad}

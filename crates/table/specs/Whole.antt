@@ -7,8 +7,8 @@ use Rattle.paper.specs.Maybe.{_>>=_, require}
 use Rattle.paper.specs.Store.{Store}
 use Rattle.paper.specs.Decoder.{ended}
 use Rattle.paper.specs.TableDecoder.{absent, distinct, table-of}
-use Rattle.theorems.proofs.Laws.DecodeFree.{entries-from}
-use Rattle.theorems.proofs.Laws.DecodeAt.{cursor}
+use Rattle.paper.specs.DecodeFrom.{entries-from}
+use Rattle.paper.specs.DecodeAt.{cursor}
 
 -- the paper's reader of tables finds a store
 unfoldable pub is-table-of : List ℕ → Bool

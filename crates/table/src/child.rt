@@ -30,7 +30,7 @@ fn same_bytes(a: &[u8], b: &[u8]) -> bool
 }
 
 // The name of a record; none where its text lies outside.
-pub fn name_at<'a, 'b>(recs: &'b [u8], text: &'a [u8], i: usize) -> &'a [u8]
+pub(crate) fn name_at<'a, 'b>(recs: &'b [u8], text: &'a [u8], i: usize) -> &'a [u8]
     ensures { λ r. ⌜ now r ≡ named-at (now (recs .entry)) (now (text .entry)) i ⌝ }
 {
     let p = label_at(recs, i);
@@ -38,7 +38,7 @@ pub fn name_at<'a, 'b>(recs: &'b [u8], text: &'a [u8], i: usize) -> &'a [u8]
 }
 
 // The span of a record, or 0 where it would lead outside.
-pub fn span_within(recs: &[u8], i: usize, left: usize) -> usize
+pub(crate) fn span_within(recs: &[u8], i: usize, left: usize) -> usize
     ensures { λ r. ⌜ r ≡ span-in (now (recs .entry)) i left ⌝ }
 {
     if !fits(recs.len(), i, 16) {

@@ -6,6 +6,4 @@ mod whole;
 
 pub use child::Found;
 pub use child::find_child;
-pub use child::name_at;
-pub use child::span_within;
 pub use whole::is_table;

@@ -5,7 +5,7 @@ use mathlib.Core.List.{List, []}
 use mathlib.Core.Option.{Option, Option·some-injective}
 use denote.Ref.{now}
 use Rattle.paper.specs.Decoder.{Cursor}
-use Rattle.theorems.proofs.Laws.DecodeAt.{cursor}
+use Rattle.paper.specs.DecodeAt.{cursor}
 use Rattle.paper.specs.Determines.{Determines, _&_}
 use Rattle.texts.specs.Text.{FoundIs}
 use Rattle.texts.specs.declared.Past.{Past}

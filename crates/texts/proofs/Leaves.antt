@@ -12,7 +12,8 @@ use Rattle.paper.specs.Bytes.{if_then_else_}
 use Rattle.paper.specs.Maybe.{_>>=_, require}
 use Rattle.paper.specs.Syntax.{boolean, null, integer, decimal, string, reference}
 use Rattle.paper.specs.Decoder.{decimal-of, string-of, path-of, field, signed, leaf}
-use Rattle.theorems.proofs.Laws.DecodeAt.{cursor, field-here, field-none, field-misplaced}
+use Rattle.theorems.proofs.Laws.DecodeAt.{field-here, field-none, field-misplaced}
+use Rattle.paper.specs.DecodeAt.{cursor}
 use Rattle.texts.specs.declared.Past.{Past}
 use Rattle.texts.specs.declared.Past.the-variants.{At, Bad}
 use Rattle.texts.specs.Text.{Ends, PastIs, LeafIs, FieldIs}

@@ -14,7 +14,8 @@ use Rattle.paper.specs.Maybe.{_>>=_, require}
 use Rattle.paper.specs.Tokens.{reserved, member}
 use Rattle.paper.specs.Scanner.{scan}
 use Rattle.paper.specs.Decoder.{one-name, name-of, names-of, path-of, long-of, decimal-of, string-of}
-use Rattle.theorems.proofs.Laws.DecodeAt.{Bytes, word, part, name-here, long-here, path-here}
+use Rattle.theorems.proofs.Laws.DecodeAt.{Bytes, part, name-here, long-here, path-here}
+use Rattle.paper.specs.DecodeAt.{word}
 use Rattle.texts.specs.declared.Past.{Past}
 use Rattle.texts.specs.declared.Past.the-variants.{At, Bad}
 use Rattle.texts.specs.Text.{legal-name, legal-decimal, Ends, PastIs, LongEnds}

@@ -8,7 +8,7 @@ use lib.ListN.{length, take, drop}
 use Rattle.paper.specs.Tokens.{reserved, member}
 use Rattle.paper.specs.Scanner.{scan}
 use Rattle.paper.specs.Decoder.{Cursor, one-name, one-decimal, long-of, leaf, field}
-use Rattle.theorems.proofs.Laws.DecodeAt.{cursor}
+use Rattle.paper.specs.DecodeAt.{cursor}
 use Rattle.texts.specs.declared.Past.{Past}
 use Rattle.texts.specs.declared.Past.the-variants.{At, Bad}
 

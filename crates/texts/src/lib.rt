@@ -7,7 +7,7 @@ ghost use mathlib.Core.Path.{_≡_};
 ghost use Prim.Native.Nat.{_+_, _≤_, _<_};
 ghost use lib.ListN.{length, drop, getD};
 ghost use Rattle.paper.specs.Decoder.{name-of, names-of, path-of, decimal-of, string-of};
-ghost use Rattle.theorems.proofs.Laws.DecodeAt.{word};
+ghost use Rattle.paper.specs.DecodeAt.{word};
 ghost use Rattle.texts.specs.Text.{PastIs, LongIs, LeafIs, FieldIs};
 
 pub enum Past {

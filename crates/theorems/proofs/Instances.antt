@@ -19,7 +19,7 @@ use Rattle.paper.specs.Reader.{read}
 use Rattle.paper.specs.Store.{Store, ∅, basic}
 use Rattle.paper.specs.Meaning.{B⟦_⟧, main}
 use Rattle.paper.specs.Layout.{table}
-use Rattle.paper.specs.WellFormed.{IsStore, IsTable, IsStepList}
+use Rattle.paper.specs.WellFormed.{IsStore, IsTable, IsStepList, IsBounded}
 use Rattle.paper.specs.Lent.{Lent, Enough, LongWorks}
 use Rattle.paper.specs.Operations.{translate, translate-op, run-op, main-op, resolve-op}
 use Rattle.paper.specs.Allowed.{Translates, Runs, TakesMain, Resolves, Evaluates}
@@ -28,7 +28,7 @@ use Rattle.theorems.proofs.Decoded.{decoded}
 use Rattle.theorems.proofs.Demands.{demands}
 use Rattle.theorems.proofs.Demands.Exact.{run-rest, main-rest, in-turn, translates-exactly, runs-exactly, takes-main-exactly, resolves-exactly, evaluates-exactly}
 use Rattle.theorems.proofs.Legal.{legal}
-use Rattle.theorems.proofs.Legal.Bounds.{IsBounded, of-table}
+use Rattle.theorems.proofs.Legal.Bounds.{of-table}
 use Rattle.theorems.proofs.Legal.Read.{WellRead, Translated}
 use Rattle.paper.proofs.Open.{all}
 use Rattle.theorems.proofs.ReadExactly.{read-exactly}

@@ -12,11 +12,11 @@ use Rattle.paper.specs.Reader.{read}
 use Rattle.paper.specs.Store.{Store, put, bind}
 use Rattle.paper.specs.Store as S
 use Rattle.paper.specs.Meaning.{B⟦_⟧, main}
-use Rattle.paper.specs.WellFormed.{IsName, AreNames, IsValue, IsStore, IsBlock}
+use Rattle.paper.specs.WellFormed.{IsName, AreNames, IsValue, IsStore, IsBounded, IsBlock}
 use Rattle.paper.specs.Operations.{translate}
 use Read.{WellRead, read-well, Translated, translate-well}
 use Names.{put-keeps, bind-kept, keeps}
-use Bounds.{IsBounded, evaluates, mains}
+use Bounds.{evaluates, mains}
 
 pub record IsLegal : Type 0 where
   pub read : (source : List ℕ) (b : Block) → read source ≡ ok b → WellRead b

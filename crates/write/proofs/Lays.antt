@@ -15,7 +15,8 @@ use Rattle.theorems.proofs.Decoded.Header.{Lasts, records-length}
 use Rattle.memory.specs.Memory.{stored}
 use Rattle.memory.proofs.Laws.{length-stored, then-stored, stored-none, stored-apart, stored-out}
 use Rattle.rows.specs.View.{seen, groups, view, kept, rows-in}
-use Rattle.rows.proofs.Views.{row-here, length-view, view-cons, view-end}
+use Rattle.rows.proofs.Views.{length-view, view-cons, view-end}
+use Rattle.rows.specs.Change.{row-here}
 use Rattle.write.specs.Tabled.{spanned-row, spanned, tabled, chosen, fitted}
 use Rattle.write.specs.Lay.{lay-row, lay, head, Stand, Room}
 

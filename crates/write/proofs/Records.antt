@@ -16,8 +16,8 @@ use Rattle.memory.specs.Memory.{stored}
 use Rattle.memory.proofs.Laws.{then-stored}
 use Rattle.rows.specs.View.{label-of, value-of, view, rows-in}
 use Rattle.rows.specs.Search.{deeper}
-use Rattle.rows.specs.Change.{field-at, row-bytes}
-use Rattle.rows.proofs.Views.{row-here, kept-is, length-view}
+use Rattle.rows.specs.Change.{field-at, row-bytes, row-here}
+use Rattle.rows.proofs.Views.{kept-is, length-view}
 use Rattle.write.specs.Tabled.{spanned-row}
 use Rattle.write.specs.Lay.{Stand}
 

@@ -15,8 +15,8 @@ use Rattle.memory.specs.Memory.{stored}
 use Rattle.memory.proofs.Laws.{stored-front}
 use Rattle.rows.specs.View.{view, kept, rows-in}
 use Rattle.rows.specs.Search.{deeper}
-use Rattle.rows.specs.Flat.{sized, flat, flat-value, Low}
-use Rattle.rows.proofs.Trees.{line, below, all-below, all-below-more, flat-entry, flat-none, flat-head, head, beneath, Deep, deep-flat, deep-beneath, deeper-deep, deeper-low, low-rest, length-flat}
+use Rattle.rows.specs.Flat.{sized, flat, flat-value, Low, below, all-below}
+use Rattle.rows.proofs.Trees.{line, all-below-more, flat-entry, flat-none, flat-head, head, beneath, Deep, deep-flat, deep-beneath, deeper-deep, deeper-low, low-rest, length-flat}
 use Rattle.rows.proofs.Views.{kept-is, length-view}
 use Rattle.write.specs.Tabled.{spanned-row, spanned, tabled, chosen, fitted}
 use Rattle.write.proofs.Lays.{spanned-length, tabled-length}

@@ -12,9 +12,8 @@ use Rattle.paper.specs.Layout.{text-of, row-text}
 use Rattle.memory.specs.Memory.{part-at, stored}
 use Rattle.memory.proofs.Laws.{fit, part-in, part-out, length-part, then-stored}
 use Rattle.rows.specs.View.{byte-of, text-part, label-text, label-of, value-of}
-use Rattle.rows.specs.Change.{field-at}
+use Rattle.rows.specs.Change.{field-at, row-here}
 use Rattle.rows.proofs.Texts.{part-first, part-second}
-use Rattle.rows.proofs.Views.{row-here}
 
 -- ---- a part is no longer than it should be
 

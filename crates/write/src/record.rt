@@ -16,8 +16,7 @@ ghost use Rattle.paper.specs.Layout.{figure};
 ghost use Rattle.paper.specs.Layout as Layout;
 ghost use Rattle.memory.specs.Memory.{stored};
 ghost use Rattle.rows.specs.View.{label-of, value-of, view};
-ghost use Rattle.rows.specs.Change.{row-bytes};
-ghost use Rattle.rows.proofs.Views.{row-here};
+ghost use Rattle.rows.specs.Change.{row-bytes, row-here};
 ghost use Rattle.write.specs.Tabled.{spanned-row};
 ghost use Rattle.write.specs.Lay.{Stand};
 

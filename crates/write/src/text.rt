@@ -11,7 +11,7 @@ ghost use Prim.Native.Nat.{_+_, _-_, _≤_};
 ghost use lib.ListN.{length};
 ghost use Rattle.paper.specs.Layout.{text-of, row-text};
 ghost use Rattle.memory.specs.Memory.{stored};
-ghost use Rattle.rows.proofs.Views.{row-here};
+ghost use Rattle.rows.specs.Change.{row-here};
 
 pub(crate) fn less(a: usize, b: usize) -> usize
     ensures { λ r. ⌜ r ≡ a - b ⌝ }

@@ -11,14 +11,10 @@ use borrow.Author.Tests.{leb-true, eqb-true, le-leb, eq-eqb}
 use Rattle.paper.specs.Scanner.{empty}
 use Rattle.paper.specs.Maybe.{_>>=_, require}
 use Rattle.paper.specs.Layout.{little, Row, row-bytes, texts, records, laid-out, row-text}
+use Rattle.paper.specs.DecodeAt.{headed}
 use Rattle.paper.specs.Decoder.{Cursor, number-of, header, ended}
 use Rattle.theorems.proofs.Decoded.Parts.{exact-number, length-little}
 use Rattle.theorems.proofs.Laws.Found.{Found, nothing, found, found-bind, found-require}
-
--- the bytes with this header, these records and this text
-unfoldable pub headed : ℕ → ℕ → ℕ → List ℕ → List ℕ → List ℕ
-headed form count place recs text =
-    little 4 form ++ (little 4 (place + length text) ++ (little 4 count ++ (little 4 24 ++ (little 4 (length text) ++ (little 4 place ++ (recs ++ text))))))
 
 pub record HeaderRead (form r n t : ℕ) (b : List ℕ) (x : ℕ × Cursor) : Type 0 where
   pub bytes : b ≡ headed form (x .0) (24 + r * x .0) (x .1 .recs) (x .1 .text)

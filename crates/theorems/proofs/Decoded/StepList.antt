@@ -20,7 +20,8 @@ use Rattle.paper.specs.StepLayout.{step-row, item, step-rows, all-rows, step-li
 use Rattle.paper.specs.WellFormed.{IsPath, IsPlace, IsBlock, IsValueOf, ArePrototypes, IsStepList}
 use Rattle.paper.specs.Decoder.{Cursor, Raw}
 use Rattle.paper.specs.StepDecoder.{in-steps, plain, bare, some-prototype, step-here, stops, statements-at, value-at, prototypes-at, block-of}
-use Rattle.theorems.proofs.Decoded.Header.{headed, HeaderRead, header-sound, header-complete, Lasts, lasts-++, records-length, laid-out-headed, Ended, ended-sound, ended-complete}
+use Rattle.theorems.proofs.Decoded.Header.{HeaderRead, header-sound, header-complete, Lasts, lasts-++, records-length, laid-out-headed, Ended, ended-sound, ended-complete}
+use Rattle.paper.specs.DecodeAt.{headed}
 use Rattle.theorems.proofs.Decoded.Parts.{exact-path, raw-bytes, Narrow, make-raw, same-raw, length-little}
 use Rattle.theorems.proofs.Decoded.Rows.{Took, Record, Front, Fielded, Between, Parts, took-nil, front-nil, front-++, split, front-one, split-one, front-stays, stays, front-end, record-sound, record-complete, field-sound, field-complete, figure-below, kind-below, Within, WithinAll, Lawful, BasicRead, basic-sound, basic-complete}
 use Rattle.theorems.proofs.Laws.Answers.{if-case}

@@ -18,7 +18,8 @@ use Rattle.paper.specs.Layout.{little, name-text, Field, number, text, Row, kin
 use Rattle.paper.specs.WellFormed.{IsName, IsBasic, IsStore, IsValue, IsTable}
 use Rattle.paper.specs.Decoder.{Cursor, Raw, basic-at}
 use Rattle.paper.specs.TableDecoder.{in-table, entries-at, absent, distinct, distinct-in, table-of}
-use Rattle.theorems.proofs.Decoded.Header.{headed, header-sound, header-complete, Lasts, lasts-++, records-length, laid-out-headed, ended-sound, ended-complete}
+use Rattle.theorems.proofs.Decoded.Header.{header-sound, header-complete, Lasts, lasts-++, records-length, laid-out-headed, ended-sound, ended-complete}
+use Rattle.paper.specs.DecodeAt.{headed}
 use Rattle.theorems.proofs.Decoded.Parts.{exact-name, raw-bytes, Narrow, make-raw, same-raw, length-little}
 use Rattle.theorems.proofs.Decoded.Rows.{Took, Record, Front, Fielded, Between, Parts, took-nil, front-nil, front-++, split, front-one, split-one, front-stays, stays, front-end, record-sound, record-complete, field-sound, field-complete, figure-below, kind-below, Within, WithinAll, Lawful, BasicRead, basic-sound, basic-complete}
 use Rattle.theorems.proofs.Laws.Answers.{if-case}
@@ -257,8 +258,10 @@ table-sound b =
     let k : length (records 0 xs) ≡ 16 * length xs = sym (ap length r₁) ∙ h .recs ∙ ap (λ i. 16 * i) (sym n) in
     found (record {
       laid-out = h .bytes ∙ rw (r₁, t₁, ← n) (sym (laid-out-headed 2 16 xs k));
-      store = distinct-store (y .0) (g .good) u;
-      bounds = record { depth = g .deep; nodes = omega (arith, h .few); text = rw (← t₁) (h .short) };
+      held = record {
+        store = distinct-store (y .0) (g .good) u;
+        bounds = record { depth = g .deep; nodes = omega (arith, h .few); text = rw (← t₁) (h .short) };
+      };
     })))))
 
 -- ---- from a table to bytes
@@ -417,10 +420,10 @@ table-complete b s h =
     let fr : Front xs start stop = record { recs = sym (append-nil (records 0 xs)); text = sym (append-nil (texts xs)); pos = refl } in
     rw (
       e,
-      header-complete 2 16 1024 16384 (length xs) (records 0 xs) (texts xs) (omega arith) k (h .bounds .nodes) (omega arith) (h .bounds .text) (omega (arith, h .bounds .nodes, h .bounds .text)),
-      entries-complete (2 * length (records 0 xs) + 2) 1 s start stop fr (omega (arith, h .bounds .text)) (omega (arith, h .bounds .nodes)) (store-named s (h .store)) (h .bounds .depth) (omega arith),
+      header-complete 2 16 1024 16384 (length xs) (records 0 xs) (texts xs) (omega arith) k (h .held .bounds .nodes) (omega arith) (h .held .bounds .text) (omega (arith, h .held .bounds .nodes, h .held .bounds .text)),
+      entries-complete (2 * length (records 0 xs) + 2) 1 s start stop fr (omega (arith, h .held .bounds .text)) (omega (arith, h .held .bounds .nodes)) (store-named s (h .held .store)) (h .held .bounds .depth) (omega arith),
       ended-complete stop refl refl,
-      store-distinct s (h .store),
+      store-distinct s (h .held .store),
     )
 
 -- ---- the theorems

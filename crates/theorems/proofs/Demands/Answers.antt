@@ -16,7 +16,7 @@ use Rattle.paper.specs.Meaning.{B⟦_⟧, main}
 use Rattle.paper.specs.Layout.{table}
 use Rattle.paper.specs.Steps.{steps}
 use Rattle.paper.specs.Running.{run}
-use Rattle.paper.specs.WellFormed.{IsBlock, IsTable, IsStepList}
+use Rattle.paper.specs.WellFormed.{IsBlock, IsTable, IsStepList, IsBounded}
 use Rattle.paper.specs.TableDecoder.{table-of}
 use Rattle.paper.specs.StepDecoder.{block-of}
 use Rattle.paper.specs.Operations.{translated, executed, resolved, translate, resolve, or-refused, translate-op, run-op, main-op, resolve-op}
@@ -26,7 +26,7 @@ use Rattle.theorems.proofs.Decoded.Table.{table-sound, table-complete}
 use Rattle.theorems.proofs.Demands.Exact.{run-rest, main-rest, in-turn}
 use Rattle.theorems.proofs.Laws.Found.{found-some}
 use Rattle.theorems.proofs.Laws.Gives.{Gives, gives, refuses, known, gives-bind, gives-weaken}
-use Rattle.theorems.proofs.Legal.Bounds.{IsBounded, of-table, to-table, empty-bounded, evaluates, evaluates-numbers, mains, main-numbers, Stepping, Main, absent, no-component}
+use Rattle.theorems.proofs.Legal.Bounds.{of-table, to-table, empty-bounded, evaluates, evaluates-numbers, mains, main-numbers, Stepping, Main, absent, no-component}
 use Rattle.theorems.proofs.Legal.Read.{Translated, translate-well, translate-numbers}
 
 -- an answer's store as a table

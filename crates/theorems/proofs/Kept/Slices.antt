@@ -23,7 +23,7 @@ steps-fit : (b : List ℕ) → SomeSteps b → length b ≤ least-list
 steps-fit b h = omega (arith, steps-length (h .is-listed), h .is-listed .listed .count, h .is-listed .listed .text)
 
 table-fit : (b : List ℕ) → SomeTable b → length b ≤ least-table
-table-fit b h = omega (arith, table-length (h .is-table), h .is-table .bounds .nodes, h .is-table .bounds .text)
+table-fit b h = omega (arith, table-length (h .is-table), h .is-table .held .bounds .nodes, h .is-table .held .bounds .text)
 
 written-length : (a : Answer (List ℕ)) (output : List ℕ) → ((b : List ℕ) → a ≡ ok b → length b ≤ length output) → length (written a output) ≡ length output
 unfolding written

@@ -13,6 +13,7 @@ use borrow.Author.Tests.{lt-ltb, eq-eqb, ne-eqb}
 use Rattle.paper.specs.Maybe.{_>>=_, require}
 use Rattle.paper.specs.Tokens.{reserved, member}
 use Rattle.paper.specs.Scanner.{scan, empty}
+use Rattle.paper.specs.DecodeAt.{word, raw-at, cursor}
 use Rattle.paper.specs.Decoder.{Cursor, Raw, number-of, raw-of, record-at, field, one-name, name-of, names-of, path-of, long-of}
 use Rattle.theorems.proofs.Decoded.Parts.{Reads, exact-raw, raw-bytes, Narrow, length-little}
 use Rattle.theorems.proofs.Laws.Found.{Found, found}
@@ -20,11 +21,6 @@ use Rattle.theorems.proofs.Laws.Found.{Found, found}
 -- what a slice of bytes is
 pub record Bytes (b : List ℕ) : Type 0 where
   pub byte : (i : ℕ) → getD b i 0 < 256
-
--- the number that n bytes at i are
-unfoldable pub word : ℕ → List ℕ → ℕ → ℕ
-word zero b i = 0
-word (suc n) b i = getD b i 0 + 256 * word n b (suc i)
 
 pub number-at : (n : ℕ) (b : List ℕ) (i : ℕ) → Bytes b → i + n ≤ length b → number-of n (drop i b) ≡ some (word n b i, drop (i + n) b)
 unfolding number-of word _>>=_ require
@@ -43,10 +39,6 @@ unfolding number-of _>>=_ require
 number-short zero s l = absurd (omega arith)
 number-short (suc n) [] l = refl
 number-short (suc n) (b ∷ s) l = rw (number-short n s (omega arith)) (no-more (ltb b 256))
-
--- the record of 16 + w bytes at i
-unfoldable pub raw-at : ℕ → List ℕ → ℕ → Raw
-raw-at w b i = record { first = word 2 b i; second = word 2 b (i + 2); label = word 2 b (i + 4); span = word 2 b (i + 6); value = word 8 b (i + 8); place = word w b (i + 16) }
 
 raw-length : (w : ℕ) (y : Raw) → length (raw-bytes w y) ≡ 16 + w
 unfolding raw-bytes
@@ -77,9 +69,6 @@ raw-short w s l = no-raw w s (raw-of w s) refl (exact-raw w .sound s) l
         absurd (omega arith)
 
 -- ---- a reader at i in the records and at p in the text
-
-unfoldable pub cursor : List ℕ → List ℕ → ℕ → ℕ → Cursor
-cursor recs text i p = record { recs = drop i recs; text = drop p text; pos = p }
 
 pub record-here : (w : ℕ) (recs text : List ℕ) (i p : ℕ) → Bytes recs → i + (16 + w) ≤ length recs → record-at w (cursor recs text i p) ≡ some (raw-at w recs i, cursor recs text (i + (16 + w)) p)
 unfolding record-at cursor _>>=_

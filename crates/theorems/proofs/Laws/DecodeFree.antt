@@ -16,6 +16,7 @@ use Rattle.paper.specs.Syntax.{Basic, vector, Basics, εⱽ, _∷ⱽ_, Block, �
 use Rattle.paper.specs.Store.{Store, ∅, entry, component}
 use Rattle.paper.specs.Store as S
 use Rattle.paper.specs.Decoder.{Cursor, Raw, record-at, field, name-of, path-of, decimal-of, string-of, leaf, Form, basic-at, elements-at, header, ended}
+use Rattle.paper.specs.DecodeFrom.{basic-from, elements-from, entry-value, entries-from, statements-from, value-from, prototypes-from}
 use Rattle.paper.specs.TableDecoder.{in-table, entries-at, distinct, table-of}
 use Rattle.paper.specs.StepDecoder.{in-steps, plain, bare, some-prototype, stops, statements-at, value-at, prototypes-at, block-of}
 use Rattle.theorems.proofs.Decoded.Parts.{raw-bytes, length-little}
@@ -172,12 +173,6 @@ mutual
       (λ d k m v c l. basic-more f form d k m v c (omega arith)) (λ d n c l. elements-more f form d n c (omega arith)) (λ d k m v c. basic-shrinks f form d k m v c)
 
 -- the readers
-unfoldable pub basic-from : Form → ℕ → ℕ → ℕ → ℕ → Cursor → Option (Basic × Cursor)
-basic-from form d k m v at = basic-at (2 * length (at .recs) + 3) form d k m v at
-
-unfoldable pub elements-from : Form → ℕ → ℕ → Cursor → Option (Basics × Cursor)
-elements-from form d n at = elements-at (2 * length (at .recs) + 2) form d n at
-
 pub basic-any : (f : ℕ) (form : Form) (d k m v : ℕ) (at : Cursor) → 2 * length (at .recs) + 3 ≤ f → basic-at f form d k m v at ≡ basic-from form d k m v at
 unfolding basic-from
 basic-any f form d k m v at l = settle (λ f. basic-at f form d k m v at) (2 * left at + 3) (λ f l. basic-more f form d k m v at l) f l
@@ -208,17 +203,6 @@ elements-some form d k at =
 -- ---- tables
 
 -- the value of an entry whose record is x, and the entries that begin with it
-unfoldable pub entry-value : (ℕ → ℕ → ℕ → ℕ → Cursor → Option (Basic × Cursor)) → (ℕ → ℕ → Cursor → Option (Store × Cursor)) → ℕ → Raw → Cursor → Option (S.Value × Cursor)
-entry-value B E d x at =
-    if eqb (x .first) 0
-    then (do
-      _ ← require (eqb (x .value) 0)
-      (c, at) ← E (suc d) (x .span - 1) at
-      some (component c, at))
-    else (do
-      (b, at) ← B d (x .first) (x .span) (x .value) at
-      some (S.basic b, at))
-
 unfoldable pub entry-body : (ℕ → ℕ → ℕ → ℕ → Cursor → Option (Basic × Cursor)) → (ℕ → ℕ → Cursor → Option (Store × Cursor)) → ℕ → ℕ → Cursor → Option (Store × Cursor)
 entry-body B E d k at = do
   (x, at) ← record-at 0 at
@@ -278,9 +262,6 @@ entries-more (suc f) d zero at le = refl
 entries-more (suc f) d (suc k) at le =
     entry-cong (basic-at f in-table) (basic-at (suc f) in-table) (entries-at f) (entries-at (suc f)) d k at
     (λ d k m v c l. basic-more f in-table d k m v c (omega arith)) (λ d n c l. entries-more f d n c (omega arith)) (λ d k m v c. basic-shrinks f in-table d k m v c) (λ d n c. entries-shrink f d n c)
-
-unfoldable pub entries-from : ℕ → ℕ → Cursor → Option (Store × Cursor)
-entries-from d n at = entries-at (2 * length (at .recs) + 2) d n at
 
 pub entries-any : (f d n : ℕ) (at : Cursor) → 2 * length (at .recs) + 2 ≤ f → entries-at f d n at ≡ entries-from d n at
 unfolding entries-from
@@ -450,15 +431,6 @@ mutual
   prototypes-more (suc f) d at le =
       prototype-cong (statements-at f) (statements-at (suc f)) (prototypes-at f) (prototypes-at (suc f)) d at
       (λ d c l. statements-more f d c (omega arith)) (λ d c l. prototypes-more f d c (omega arith)) (λ d c. statements-shrink f d c)
-
-unfoldable pub statements-from : ℕ → Cursor → Option (Block × Cursor)
-statements-from d at = statements-at (2 * length (at .recs) + 2) d at
-
-unfoldable pub value-from : ℕ → Raw → Cursor → Option (Value × Cursor)
-value-from d x at = value-at (2 * length (at .recs) + 4) d x at
-
-unfoldable pub prototypes-from : ℕ → Cursor → Option (Prototypes × Cursor)
-prototypes-from d at = prototypes-at (2 * length (at .recs) + 2) d at
 
 pub statements-any : (f d : ℕ) (at : Cursor) → 2 * length (at .recs) + 2 ≤ f → statements-at f d at ≡ statements-from d at
 unfolding statements-from

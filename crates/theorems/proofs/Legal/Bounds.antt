@@ -17,7 +17,7 @@ use Rattle.paper.specs.Bounds.{Bounded, bounded}
 use Rattle.paper.specs.Bounds as Bounds
 use Rattle.paper.specs.Meaning.{copy, inherit, linked, B⟦_⟧, A⟦_⟧, V⟦_⟧, P⟦_⟧, main}
 use Rattle.paper.specs.Layout.{Field, number, text, Row, table-row, name-text, kind, content, elements, each, rows, value-rows, row-text, texts, deepest, table}
-use Rattle.paper.specs.WellFormed.{IsStore, IsValue, IsBlock, IsStatement, IsValueOf, ArePrototypes, IsTable}
+use Rattle.paper.specs.WellFormed.{IsStore, IsValue, IsBlock, IsStatement, IsValueOf, ArePrototypes, IsBounded, IsTable}
 use Rattle.theorems.proofs.Laws.Gives.{Gives, gives, refuses, gives-bind, gives-demand, gives-ok, gives-refused}
 use Rattle.theorems.proofs.Legal.Names.{keeps}
 
@@ -84,17 +84,13 @@ mutual
   prototypes-bound (named p l ps) ns r s g h = gives-bind _ (inherit-bound p r (resolve ns l s) s h) (λ s h. prototypes-bound ps ns r s (g .2) h)
   prototypes-bound (block b ps) ns r s g h = gives-bind _ (block-bound b r s (g .0) h) (λ s h. prototypes-bound ps ns r s (g .1) h)
 
--- ---- what a store as it should be, within the bounds, is
-
-pub record IsBounded (s : Store) : Type 0 where
-  pub store : IsStore s
-  pub bounds : Bounded s
+-- ---- tables
 
 pub of-table : {b : List ℕ} {s : Store} → IsTable b s → IsBounded s
-of-table h = record { store = h .store; bounds = h .bounds }
+of-table h = h .held
 
 pub to-table : {s : Store} → IsBounded s → IsTable (table s) s
-to-table h = record { laid-out = refl; store = h .store; bounds = h .bounds }
+to-table h = record { laid-out = refl; held = h }
 
 pub empty-bounded : IsBounded ∅
 unfolding rows deepest texts

@@ -19,7 +19,7 @@ use Rattle.paper.specs.StepLayout.{step-row, item, step-rows, all-rows}
 use Rattle.theorems.proofs.Decoded.Parts.{length-little}
 use Rattle.theorems.proofs.Decoded.Header.{Lasts}
 use Rattle.theorems.proofs.Decoded.Rows.{kind-below}
-use Rattle.theorems.proofs.Laws.DecodeAt.{word}
+use Rattle.paper.specs.DecodeAt.{word}
 use Rattle.memory.specs.Memory.{word-at}
 use Rattle.memory.proofs.Laws.{word-in, same-word, word-little, fit, stored-sets, byte-stored, byte-other}
 use Rattle.grammar.specs.Drafts.{Draft, text-size}

@@ -5,7 +5,7 @@ use native.Mathlib.Omega.{arith}
 use mathlib.Core.Path.{_≡_, _∙_, ap}
 use lib.ListN.{length}
 use mathlib.Core.List.{List}
-use Rattle.theorems.proofs.Laws.DecodeAt.{word}
+use Rattle.paper.specs.DecodeAt.{word}
 use Rattle.memory.proofs.Laws.{word-in}
 use Rattle.main_table.specs.Lower.{Lowerable, text-from, text-to}
 use Rattle.main_table.proofs.Lowers.{table-stored, table-size}

@@ -6,7 +6,7 @@ use mathlib.Core.Path.{_≡_, sym, _∙_}
 use lib.ListN.{length}
 use lib.Dec.{lit<}
 use borrow.Author.Needs.{needs}
-use Rattle.theorems.proofs.Laws.DecodeAt.{word}
+use Rattle.paper.specs.DecodeAt.{word}
 use Rattle.memory.proofs.Laws.{fits-yes, fits-no, word-in, word-out}
 use Rattle.memory.proofs.Turns.{word-turn, grown, room}
 use Rattle.memory.proofs.number.get.Statement.{statement}
