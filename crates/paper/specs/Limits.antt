@@ -1,4 +1,5 @@
--- Document 01's limits and smallest slices: each number stands here, once, under a name. Assumes nothing.
+-- Document 01's limits and smallest slices, each under a name. No other definition that has to be believed says one of these
+-- numbers; the readers, which compute, say some again. Assumes nothing.
 use Prim.Native.Nat.{ℕ}
 
 -- "Description 32,768 bytes; 1,024 steps and 32,768 step text bytes; tables of depth 32, 1,024 nodes and 16,384 text bytes."
