@@ -77,6 +77,15 @@ def antt(text, names):
     return ''.join(out)
 
 
+def borrowed(text):
+    """The names that a file takes from elsewhere than this repository."""
+    out = set()
+    for path, names in re.findall(r'use ([\w.ℕℤ]+)\.\{([^}]*)\}', text):
+        if re.match(r'Rattle\.(std|core)|Prim\b|[a-z]', path):
+            out |= {n.strip() for n in names.split(',')}
+    return out
+
+
 CLAUSE = re.compile(r'ghost use [^;]*;|\b(?:requires|ensures|invariant|decreases)\*?(?: \w+)? \{|\bghost [^;{]*\{')
 
 
@@ -115,7 +124,9 @@ def main():
                 return 1
     for f in words:
         old = open(f).read()
-        new = (antt if f.endswith('.antt') else rust)(old, names)
+        others = borrowed(old)
+        mine = {n: r for n, r in names.items() if n not in others}
+        new = (antt if f.endswith('.antt') else rust)(old, mine)
         if new != old:
             open(f, 'w').write(new)
     return 0

@@ -1,6 +1,7 @@
 // Compares the four operations with the second implementation, byte for byte. Standard input holds how many cases there are, then each case:
 // its head, its name, its inputs and the output that is expected. A case with a name gets a line, and so does one that differs; at the end
 // each operation gets a line.
+#![tactic(auto)]
 mod answer;
 mod count;
 mod fence;

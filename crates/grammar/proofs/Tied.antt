@@ -5,7 +5,7 @@ use Prim.Native.Nat.{ℕ, zero, suc, ◌+◌, ◌*◌, ◌-◌}
 use native.Mathlib.Omega.{arith}
 use mathlib.Core.Path.{◌≡◌, refl, sym, ◌∙◌, ap, subst}
 use mathlib.Core.Bool.{Bool, true, false}
-use mathlib.Core.List.{List, [], ◌∷◌, ◌++◌, append_assoc, append_nil}
+use mathlib.Core.List.{List, [], ◌∷◌, ◌++◌, append_assoc, append-nil}
 use lib.ListN.{length, drop, length-append}
 use Rattle.paper.specs.Bytes.{if◌then◌else◌}
 use Rattle.paper.specs.Answer.{Answer, ok, refused, ◌>>=◌, demand}
@@ -160,7 +160,7 @@ module _ (s : List ℕ) where
         alike_bind _ _ (basics_tied f d a (expect_stands s "," h t.stands a j)) (λ is bs k u.
         both (twin (record { stands = u.stands; items = λ d. join s (item_tied b c h d t) (u.items d) })))))
         (alike_after (expect "]" h) _ _ (λ a j.
-        both (twin (record { stands = expect_stands s "]" h t.stands a j; items = λ d. rw append_nil (item_tied b c h d t) }))))))
+        both (twin (record { stands = expect_stands s "]" h t.stands a j; items = λ d. rw append-nil (item_tied b c h d t) }))))))
 
 -- ---- statements
 
@@ -177,7 +177,7 @@ module _ (s : List ℕ) where
   -- a step with a path and no more
   path_tied : (i p : ℕ) (r : Path) → has_path i ≡ true → is_path i 0 ≡ false → Reads s p r → Tied s (draft i 0 p 0 0 p (length (path_text r))) (step_row i 0 (text (path_text r)) 0 (number 0) p)
   unfolding draft step_row row_text text_of
-  path_tied i p r e f R = record { step = refl; kind = refl; label = path_label e R; span = refl; value = same_number f refl refl; last = refl; size = rw append_nil refl }
+  path_tied i p r e f R = record { step = refl; kind = refl; label = path_label e R; span = refl; value = same_number f refl refl; last = refl; size = rw append-nil refl }
 
   set_tied : (p : ℕ) (r : Path) (b : Drafted) (c : Basic) (h : Here) → Reads s p r → BasicTied s b c h
       → AllTied s (set_draft p (length (path_text r)) b) (step_row 6 (kind c) (text (path_text r)) (suc (length (elements item 0 c))) (content c) p ∷ elements item 0 c)
@@ -237,7 +237,7 @@ module _ (s : List ℕ) where
         })))))
         (alike_bind _ _ (basic_tied s f d at st) (λ b c h t.
         alike_after (expect ";" h) _ _ (λ a j.
-        both (twin (record { stands = expect_stands s ";" h t.stands a j; drafts = rw append_nil (set_tied p r b c h R t) })))))))
+        both (twin (record { stands = expect_stands s ";" h t.stands a j; drafts = rw append-nil (set_tied p r b c h R t) })))))))
 
     prototypes_tied : (f d : ℕ) (at : Here) → Stands s at → Alike (Twin (StepsTied s prototype_steps)) (draft_prototypes f d at) (prototypes f d at)
     prototypes_tied zero d at st = neither

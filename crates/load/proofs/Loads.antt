@@ -4,7 +4,7 @@ use native.Mathlib.Omega.{arith}
 use native.Mathlib.Nat.{add-zero, zero-add}
 use native.Mathlib.Numerals.{add-one}
 use mathlib.Core.Path.{◌≡◌, refl, sym, ◌∙◌, ap}
-use mathlib.Core.List.{List, ◌++◌, append_assoc, append_nil}
+use mathlib.Core.List.{List, ◌++◌, append_assoc, append-nil}
 use lib.ListN.{length, length-append}
 use Rattle.memory.specs.Memory.{stored}
 use Rattle.memory.proofs.Laws.{stored_none, then_stored}
@@ -42,7 +42,7 @@ loaded_length recs text (suc n) i = simp length-append (omega (arith, loaded_row
 
 loaded_more : (recs text : List ℕ) (n i : ℕ) → loaded recs text i (n + 1) ≡ loaded recs text i n ++ loaded_row recs text (i + n)
 unfolding loaded
-loaded_more recs text zero i = append_nil (loaded_row recs text i) ∙ ap (loaded_row recs text) (sym (add-zero i))
+loaded_more recs text zero i = append-nil (loaded_row recs text i) ∙ ap (loaded_row recs text) (sym (add-zero i))
 loaded_more recs text (suc n) i =
     let q : suc i + n ≡ i + suc n = omega arith in
     ap (loaded recs text i) (add-one (suc n))

@@ -4,7 +4,7 @@ use native.Mathlib.Omega.{arith}
 use native.Mathlib.Nat.{add-zero}
 use native.Mathlib.Numerals.{add-one}
 use mathlib.Core.Path.{◌≡◌, refl, sym, ◌∙◌, ap}
-use mathlib.Core.List.{List, ◌++◌, append_assoc, append_nil}
+use mathlib.Core.List.{List, ◌++◌, append_assoc, append-nil}
 use lib.ListN.{length, take, drop, get_or, length-append}
 use borrow.Author.Tests.{le-leb, lt-leb, eq-eqb, ne_eqb, lt-ltb, le-ltb}
 use Rattle.paper.specs.Bytes.{if◌then◌else◌}
@@ -65,7 +65,7 @@ all_none recs i from s = sym (stored_none s 24)
 
 all_more : (recs : List ℕ) (k i from : ℕ) → lowered_all recs i from (k + 1) ≡ lowered_all recs i from k ++ lowered recs (i + 16 * k) from
 unfolding lowered_all
-all_more recs zero i from = append_nil (lowered recs i from) ∙ ap (λ j. lowered recs j from) (sym (add-zero i))
+all_more recs zero i from = append-nil (lowered recs i from) ∙ ap (λ j. lowered recs j from) (sym (add-zero i))
 all_more recs (suc k) i from =
     let q : i + 16 + 16 * k ≡ i + 16 * suc k = omega arith in
     ap (lowered_all recs i from) (add-one (suc k))

@@ -5,7 +5,7 @@ use native.Mathlib.Omega.{arith}
 use native.Mathlib.Nat.{zero-add, suc-add}
 use mathlib.Core.Path.{◌≡◌, refl, sym, ◌∙◌, ap}
 use mathlib.Core.Bool.{true, false}
-use mathlib.Core.List.{List, [], ◌∷◌, ◌++◌, append_assoc, append_nil}
+use mathlib.Core.List.{List, [], ◌∷◌, ◌++◌, append_assoc, append-nil}
 use mathlib.Core.Logic.{◌⊎◌, inl, inr, ⊎_elim}
 use lib.ListN.{length, drop, get_or, length-append, get_or-append}
 use lib.Seq.{drop_at, drop-drop, get_or-drop}
@@ -212,7 +212,7 @@ module _ (recs : List ℕ) (a from u : ℕ) (x : Row) (M : Movable x) (rest : Li
   row_moved =
       let l = length (text_of x.label) in
       let t = from + u in
-      let F₀ : drop a recs ≡ little 2 x.first ++ (little 2 (suc x.second) ++ (little 2 (figure t x.label) ++ (little 2 x.span ++ (little 8 (figure (t + l) x.value) ++ rest)))) = F ∙ rw (M.last, append_nil (little 8 (figure (t + l) x.value))) (simp append_assoc) in
+      let F₀ : drop a recs ≡ little 2 x.first ++ (little 2 (suc x.second) ++ (little 2 (figure t x.label) ++ (little 2 x.span ++ (little 8 (figure (t + l) x.value) ++ rest)))) = F ∙ rw (M.last, append-nil (little 8 (figure (t + l) x.value))) (simp append_assoc) in
       let F₂ = front_next 2 x.first a recs _ F₀ in
       let F₄ = front_next 2 (suc x.second) (a + 2) recs _ F₂ in
       let q₄ : a + 2 + 2 ≡ a + 4 = omega arith in
@@ -232,7 +232,7 @@ module _ (recs : List ℕ) (a from u : ℕ) (x : Row) (M : Movable x) (rest : Li
       let qt : t + l ≡ from + (u + l) = omega arith in
       let v : little 8 (moved_value from x.first (word 8 recs (a + 8))) ≡ little 8 (figure (u + l) x.value) =
       ap (λ w. little 8 (moved_value from x.first w)) (front_word 8 (figure (t + l) x.value) (a + 8) recs rest G₈ ∙ ap (λ p. word 8 (little 8 (figure p x.value)) 0) qt) ∙ value_moves from (u + l) x.first x.value M.value (omega arith) in
-      (rw (k, d, n, m, v, M.last, append_nil (little 8 (figure (u + l) x.value))), rw q₉ at F₉)
+      (rw (k, d, n, m, v, M.last, append-nil (little 8 (figure (u + l) x.value))), rw q₉ at F₉)
 
 pub rows_moved : (xs : List Row) (recs : List ℕ) (a from u : ℕ) (rest : List ℕ) → AllMovable xs → drop a recs ≡ records (from + u) (deepen xs) ++ rest → from + u + length (texts xs) ≤ 16384
     → lowered_all recs a from (length xs) ≡ records u xs

@@ -1,4 +1,5 @@
 // Calls each function of memory at places within, at the end of and past a slice, and writes what comes of it.
+#![tactic(auto)]
 use libc::STDOUT_FILENO;
 
 fn number(x: u64) {

@@ -1,6 +1,7 @@
 // Does each operation on a description so many times: translate, run of its list over the empty table, main of the whole table, and resolve.
 // One time is the difference of two counts. Standard input holds five numbers of 32 bits, the lowest byte first, which are the times of each
 // and the description's length; then the description. Each time is a line.
+#![tactic(auto)]
 use libc::{STDIN_FILENO, STDOUT_FILENO};
 
 const EMPTY: [u8; 24] = *b"\x02\0\0\0\x18\0\0\0\0\0\0\0\x18\0\0\0\0\0\0\0\x18\0\0\0";

@@ -3,7 +3,7 @@ use Prim.Native.Nat.{ℕ, zero, suc, ◌+◌, ◌-◌, ◌*◌, ◌≤◌, ◌<�
 use native.Mathlib.Nat.{add-mul, mul-le-mul_right, not-suc-le-zero, le_of_eq, zero-add, suc-add, add-zero, suc-mul, zero-mul}
 use native.Mathlib.Omega.{arith}
 use mathlib.Core.Path.{◌≡◌, refl, sym, ap, ◌∙◌}
-use mathlib.Core.List.{List, [], ◌∷◌, ◌++◌, append_nil}
+use mathlib.Core.List.{List, [], ◌∷◌, ◌++◌, append-nil}
 use lib.ListN.{length, take, drop, get_or, length-drop, take-append-drop, drop_of_length-le}
 use lib.Seq.{take-append-le, drop-append-le, take_at, drop-drop, drop-cons, length-take-le}
 use Rattle.rows.specs.View.{groups}
@@ -53,7 +53,7 @@ groups_append k f (suc n) m x y h =
 pub groups_front : {A : Type 0} (k : ℕ) (f : List ℕ → A) (n : ℕ) (x y : List ℕ) → length x ≡ n * k → groups k f (x ++ y) n ≡ groups k f x n
 unfolding groups
 groups_front k f n x y h =
-    ap (groups k f (x ++ y)) (sym (add-zero n)) ∙ groups_append k f n 0 x y h ∙ append_nil (groups k f x n)
+    ap (groups k f (x ++ y)) (sym (add-zero n)) ∙ groups_append k f n 0 x y h ∙ append-nil (groups k f x n)
 
 -- their own bytes are the first of those given
 pub groups_own : {A : Type 0} (k : ℕ) (f : List ℕ → A) (n : ℕ) (w : List ℕ) → n * k ≤ length w → groups k f w n ≡ groups k f (take (n * k) w) n

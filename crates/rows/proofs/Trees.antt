@@ -4,7 +4,7 @@ use native.Mathlib.Omega.{arith}
 use native.Mathlib.Nat.{le_refl, zero-add, add-zero}
 use mathlib.Core.Path.{◌≡◌, refl, sym, ap, ap₂, ◌∙◌, subst}
 use mathlib.Core.Bool.{Bool, true, false, ◌&&◌, false≢true}
-use mathlib.Core.List.{List, [], ◌∷◌, ◌++◌, append_assoc, append_nil, map, map-append}
+use mathlib.Core.List.{List, [], ◌∷◌, ◌++◌, append_assoc, append-nil, map, map-append}
 use mathlib.Core.Option.{none, some}
 use lib.ListN.{length, drop, length-append}
 use lib.Dec.{eqb}
@@ -225,7 +225,7 @@ module _ (n : Name) (d : ℕ) (q : List Row) (h : Low d q) where
   pub spot : (s : Store) (i : ℕ) → Spot n d s q i
   unfolding lookup put
   spot ∅ i = absent refl (ap (λ r. seek n d (r ++ q) i) (flat_none d) ∙ seek_low n d q i h)
-      (λ v. flat_entry d n v ∅ ∙ ap (λ r. flat_value d n v ++ r) (flat_none d) ∙ append_nil (flat_value d n v) ∙ ap (λ r. r ++ flat_value d n v) (sym (flat_none d)))
+      (λ v. flat_entry d n v ∅ ∙ ap (λ r. flat_value d n v ++ r) (flat_none d) ∙ append-nil (flat_value d n v) ∙ ap (λ r. r ++ flat_value d n v) (sym (flat_none d)))
   spot (entry m v s) i = spot_of m v s i (same m n) refl (spot s (length (beneath d v) + suc i))
 
 -- ---- measures

@@ -3,7 +3,7 @@ use Prim.Native.Nat.{ℕ, zero, suc, ◌+◌, ◌-◌, ◌*◌, ◌≤◌, ◌<�
 use native.Mathlib.Omega.{arith}
 use mathlib.Core.Path.{◌≡◌, refl, sym, ap, ◌∙◌, subst}
 use mathlib.Core.Bool.{Bool, true, false}
-use mathlib.Core.List.{List, [], ◌∷◌, ◌++◌, append_assoc, append_nil}
+use mathlib.Core.List.{List, [], ◌∷◌, ◌++◌, append_assoc, append-nil}
 use lib.ListN.{length, take, drop, length-append, length-drop}
 use lib.Seq.{drop_at, take_at, drop-drop}
 use lib.Dec.{leb, eqb}
@@ -60,7 +60,7 @@ bounded_ran p ys s (Refused k) h = go h
 
 module _ (t u w s w' : List ℕ) (n m k tb : ℕ) (ns : Path) (name : Name) (count : length ns ≡ k) where
   rooted : (st : Store) → view t u w n ≡ flat 1 st → view t u w n ≡ [] ++ (flat 1 st ++ [])
-  rooted st e = e ∙ sym (append_nil (flat 1 st))
+  rooted st e = e ∙ sym (append-nil (flat 1 st))
 
   held_deep : (st : Store) → Held (view t u w n) tb st → deepest (view t u w n) ≤ 32
   held_deep st h = omega (arith, ap deepest h.rows, deepest_flat 1 st, h.bounds.depth)
@@ -74,7 +74,7 @@ module _ (t u w s w' : List ℕ) (n m k tb : ℕ) (ns : Path) (name : Name) (cou
       let x : BoundedIs (R.before ++ (flat (1 + k) (put R.inner name v) ++ R.after)) (view t u w') r =
       b R.before R.after R.inner v (subst (λ a. Low a R.after) j R.low) R.at (subst (λ a. view t u w n ≡ R.before ++ (flat a R.inner ++ R.after)) j R.rows) (ev ∙ ap (λ a. flat_value a name v) j) held.bytes (held_deep st held) in
       let y : R.before ++ (flat (1 + k) (put R.inner name v) ++ R.after) ≡ flat 1 B.store =
-      ap (λ a. R.before ++ (flat a (put R.inner name v) ++ R.after)) (sym j) ∙ sym B.rows ∙ append_nil (flat 1 B.store) in
+      ap (λ a. R.before ++ (flat a (put R.inner name v) ++ R.after)) (sym j) ∙ sym B.rows ∙ append-nil (flat 1 B.store) in
       rw B.is (bounded_ran p (view t u w') B.store r (subst (λ a. BoundedIs a (view t u w') r) y x))
 
   pub assigns_absent : DescendsFrom (view t u w n) 0 1 ns Absent → Assigns t u n ns name m tb w s w' (Refused 14)
@@ -166,7 +166,7 @@ module _ (t u w s : List ℕ) (n m tb j e k : ℕ) (ns : Path) (p : ℕ) (count 
           let nm : name ≡ x = called ∙ label_name t u (field_at 2 s j 4) x (sym (here_label t u s j) ∙ ap (λ y. y.label) h ∙ head_label d x v) in
           let e₁ : k + 2 ≡ suc d = omega arith in
           let e₂ : j + 1 ≡ suc j = omega arith in
-          let lo : Low (suc d) (flat d c) = subst (Low (suc d)) (append_nil (flat d c)) (low_rest d c [] tt) in
+          let lo : Low (suc d) (flat d c) = subst (Low (suc d)) (append-nil (flat d c)) (low_rest d c [] tt) in
           let e₃ : deeper (k + 2) (drop (j + 1) (rows_in t u s m)) ≡ length (beneath d v) =
           (λ i. deeper (e₁ i) (drop (e₂ i) (rows_view t u s m many room i))) ∙ ap (deeper (suc d)) b ∙ deeper_value d v (flat d c) lo in
           let n₁ : length (flat_value d x v) ≡ suc (length (beneath d v)) = ap length (flat_head d x v) in

@@ -2,7 +2,7 @@
 use Prim.Native.Nat.{ℕ, ◌+◌, ◌≤◌, ◌<◌}
 use native.Mathlib.Omega.{arith}
 use mathlib.Core.Path.{◌≡◌, refl, sym, ◌∙◌, ap, subst}
-use mathlib.Core.List.{List, [], ◌∷◌, ◌++◌, append_nil}
+use mathlib.Core.List.{List, [], ◌∷◌, ◌++◌, append-nil}
 use mathlib.Core.Option.{Option, none, some}
 use lib.ListN.{length, drop}
 use lib.Seq.{drop_at}
@@ -66,7 +66,7 @@ module _ (t u w : List ℕ) (n : ℕ) (few : n ≤ 1024) (room : 65536 ≤ lengt
 
   module _ (s : Store) (is : view t u w n ≡ flat 1 s) where
     all_are : view t u w n ≡ flat 1 s ++ []
-    all_are = is ∙ sym (append_nil (flat 1 s))
+    all_are = is ∙ sym (append-nil (flat 1 s))
 
     main_absent : none ≡ seek sf_config 1 (drop 0 (rows_in t u w n)) 0 → main s ≡ refused 19 0
     main_absent e = go (spot sf_config 1 [] tt s 0)

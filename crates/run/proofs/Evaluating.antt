@@ -4,7 +4,7 @@ use native.Mathlib.Omega.{arith}
 use native.Mathlib.Nat.{add-zero}
 use mathlib.Core.Logic.{◌⊎◌, inl, inr}
 use mathlib.Core.Path.{◌≡◌, refl, sym, ap, ◌∙◌, subst}
-use mathlib.Core.List.{List, [], ◌∷◌, ◌++◌, append_assoc, append_nil}
+use mathlib.Core.List.{List, [], ◌∷◌, ◌++◌, append_assoc, append-nil}
 use lib.ListN.{length, drop, get_or, length-append, length-drop}
 use lib.Seq.{get_or-drop, drop-drop, drop_at}
 use Rattle.paper.specs.Answer.{Answer, ok, refused, ◌>>=◌}
@@ -47,7 +47,7 @@ all_rows-++ (i ∷ is) js = ap (λ r. step_rows i ++ r) (all_rows-++ is js) ∙ 
 
 pub one_step : (i : Step) → all_rows (i ∷ []) ≡ step_rows i
 unfolding all_rows
-one_step i = append_nil (step_rows i)
+one_step i = append-nil (step_rows i)
 
 -- every record of a list has 20 bytes
 abbrev pub Long : List Row → Type 0
@@ -258,7 +258,7 @@ module _ (t u s s₁ : List ℕ) (k m q : ℕ) (r : Path) (v : Value) (list : Li
   places_length = length_places t (q + 1) m
 
   names_of_places : names t u (places t (q + 1) m) m ≡ r
-  names_of_places = (λ j. names t u (places t (q + 1) (target_count j)) (target_count j)) ∙ ap (λ x. names t u x (length r)) (sym (append_nil (places t (q + 1) (length r)))) ∙ placed_path.1 []
+  names_of_places = (λ j. names t u (places t (q + 1) (target_count j)) (target_count j)) ∙ ap (λ x. names t u x (length r)) (sym (append-nil (places t (q + 1) (length r)))) ∙ placed_path.1 []
 
   target_names : names t u (drop 32768 s₁) (k + m) ≡ scope_in t u s k ++ r
   target_names =
@@ -287,7 +287,7 @@ module _ (t u s s₁ : List ℕ) (k m q : ℕ) (r : Path) (v : Value) (list : Li
       let w : word_at 2 (drop 32768 s₁) ((k + m - 1) * 2) ≡ word_at 2 (places t (q + 1) (length r) ++ []) ((length r - 1) * 2) =
       word_drop 2 s₁ 32768 ((k + m - 1) * 2) (omega (arith, ls, few, l, c, P.some, room)) ∙ (λ x. word_at 2 (stored_is x) (b x))
       ∙ word_stored 2 s (32768 + k * 2) (places t (q + 1) m) ((m - 1) * 2) (omega (arith, lp, few, l, room)) (omega (arith, lp, c, P.some))
-      ∙ (λ x. word_at 2 (places t (q + 1) (c x)) ((c x - 1) * 2)) ∙ ap (λ x. word_at 2 x ((length r - 1) * 2)) (sym (append_nil (places t (q + 1) (length r)))) in
+      ∙ (λ x. word_at 2 (places t (q + 1) (c x)) ((c x - 1) * 2)) ∙ ap (λ x. word_at 2 x ((length r - 1) * 2)) (sym (append-nil (places t (q + 1) (length r)))) in
       record {
         front = scope_in t u s k ++ E.front;
         last = E.last;

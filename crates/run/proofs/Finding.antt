@@ -2,7 +2,7 @@
 use Prim.Native.Nat.{ℕ, zero, suc, ◌+◌, ◌-◌, ◌*◌, ◌≤◌, ◌<◌}
 use native.Mathlib.Omega.{arith}
 use mathlib.Core.Path.{◌≡◌, refl, sym, ap, ◌∙◌, subst}
-use mathlib.Core.List.{List, [], ◌∷◌, ◌++◌, append_assoc, append_nil}
+use mathlib.Core.List.{List, [], ◌∷◌, ◌++◌, append_assoc, append-nil}
 use mathlib.Core.Option.{Option, none, some}
 use lib.ListN.{length, take, drop, length-append, take-append-drop}
 use lib.Seq.{drop_at, take_at, drop-cons, take_all, take-take}
@@ -119,7 +119,7 @@ module _ (t u w : List ℕ) (n : ℕ) (many : n ≤ 4096) (room : n * 16 ≤ len
   -- ---- scope joined with the reference
   module _ (ns r : Path) (some-name : 1 ≤ length r) where
     rooted : (s : Store) → xs ≡ flat 1 s → xs ≡ [] ++ (flat 1 s ++ [])
-    rooted s e = e ∙ sym (append_nil (flat 1 s))
+    rooted s e = e ∙ sym (append-nil (flat 1 s))
 
     pub in_absent : DescendsFrom xs 0 1 ns Absent → FindsIn xs (ns ++ r) Nothing
     in_absent h s e = none_path ns r s some-name (h [] [] s tt refl (rooted s e)).finds

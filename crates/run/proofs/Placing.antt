@@ -3,7 +3,7 @@ use Prim.Native.Nat.{ℕ, zero, suc, ◌+◌, ◌*◌, ◌-◌, ◌≤◌, ◌<�
 use native.Mathlib.Omega.{arith}
 use native.Mathlib.Numerals.{add-one}
 use mathlib.Core.Path.{◌≡◌, refl, sym, ◌∙◌, ap, ap₂, subst}
-use mathlib.Core.List.{List, [], ◌∷◌, ◌++◌, append_assoc, append_nil}
+use mathlib.Core.List.{List, [], ◌∷◌, ◌++◌, append_assoc, append-nil}
 use mathlib.Core.Logic.{◌⊎◌, inl}
 use lib.ListN.{length, take, drop, get_or, length-append, length-drop, take-append-drop}
 use lib.Seq.{take_at, drop_at, drop-drop, take-append-le, length-take-le}
@@ -47,7 +47,7 @@ length_places t q (suc n) = length-append (little 2 q) (places t (q + 1 + get_or
 
 places_suc : (t : List ℕ) (q n : ℕ) → places t q (suc n) ≡ places t q n ++ little 2 (after t q n)
 unfolding places after
-places_suc t q zero = append_nil (little 2 q)
+places_suc t q zero = append-nil (little 2 q)
 places_suc t q (suc n) = ap (λ r. little 2 q ++ r) (places_suc t (q + 1 + get_or t q 0) n) ∙ sym (append_assoc (little 2 q) (places t (q + 1 + get_or t q 0) n) (little 2 (after t (q + 1 + get_or t q 0) n)))
 
 pub places_more : (t : List ℕ) (q n : ℕ) → places t q (n + 1) ≡ places t q n ++ little 2 (after t q n)
@@ -154,7 +154,7 @@ module _ (t u : List ℕ) (p : ℕ) (r front : Path) (n : Name) (more z : List �
   last_names : drop (p + 1) t ≡ names_text front ++ (name_text n ++ more)
   unfolding names_text
   last_names =
-      path_names t p r more e ∙ ap (λ x. names_text x ++ more) is ∙ ap (λ x. x ++ more) (names-++ front (n ∷ []) ∙ ap (λ x. names_text front ++ x) (append_nil (name_text n)))
+      path_names t p r more e ∙ ap (λ x. names_text x ++ more) is ∙ ap (λ x. x ++ more) (names-++ front (n ∷ []) ∙ ap (λ x. names_text front ++ x) (append-nil (name_text n)))
       ∙ append_assoc (names_text front) (name_text n) more
 
   abbrev last_place : ℕ

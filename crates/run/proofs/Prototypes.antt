@@ -4,7 +4,7 @@ use native.Mathlib.Omega.{arith}
 use native.Mathlib.Nat.{add-zero, add_assoc}
 use mathlib.Core.Path.{◌≡◌, refl, sym, ap, ◌∙◌, subst}
 use mathlib.Core.Bool.{Bool, true, false, ◌||◌, false≢true}
-use mathlib.Core.List.{List, [], ◌∷◌, ◌++◌, append_assoc, append_nil}
+use mathlib.Core.List.{List, [], ◌∷◌, ◌++◌, append_assoc, append-nil}
 use lib.ListN.{length, drop, length-append}
 use Rattle.paper.specs.Answer.{Answer, ok, refused, ◌>>=◌}
 use Rattle.paper.specs.Syntax.{Name, Path, Basic, Block, εᴮ, ◌∷ᴮ◌, Statement, assign, Value, basic, link, extends, Prototypes, εᴾ, named, block}
@@ -68,7 +68,7 @@ block_rows b rest =
 block_length : (b : Block) → length (all_rows (prototype_steps (block b εᴾ))) ≡ 1 + (length (all_rows (steps b)) + 1)
 unfolding step_rows
 block_length b =
-    let e : all_rows (prototype_steps (block b εᴾ)) ≡ step_rows Steps.enter ++ (all_rows (steps b) ++ step_rows Steps.leave) = sym (append_nil (all_rows (prototype_steps (block b εᴾ)))) ∙ block_rows b [] ∙ ap (λ x. step_rows Steps.enter ++ (all_rows (steps b) ++ x)) (append_nil (step_rows Steps.leave)) in
+    let e : all_rows (prototype_steps (block b εᴾ)) ≡ step_rows Steps.enter ++ (all_rows (steps b) ++ step_rows Steps.leave) = sym (append-nil (all_rows (prototype_steps (block b εᴾ)))) ∙ block_rows b [] ∙ ap (λ x. step_rows Steps.enter ++ (all_rows (steps b) ++ x)) (append-nil (step_rows Steps.leave)) in
     ap length e ∙ omega (arith, length-append (all_rows (steps b)) (step_rows Steps.leave))
 
 leave_small : Small (step_row 4 0 (number 0) 0 (number 0) 0)
@@ -289,7 +289,7 @@ split_length : (ps one others : Prototypes) → ((rest : List Row) → all_rows 
 split_length ps one others f =
     let a = all_rows (prototype_steps ps ++ (Steps.done ∷ [])) in
     let b = all_rows (prototype_steps others ++ (Steps.done ∷ [])) in
-    sym (ap length (append_nil a)) ∙ ap length (f []) ∙ length-append (all_rows (prototype_steps one)) (b ++ []) ∙ ap (λ x. length (all_rows (prototype_steps one)) + x) (ap length (append_nil b))
+    sym (ap length (append-nil a)) ∙ ap length (f []) ∙ length-append (all_rows (prototype_steps one)) (b ++ []) ∙ ap (λ x. length (all_rows (prototype_steps one)) + x) (ap length (append-nil b))
 
 done_rows : (rest : List Row) → all_rows (prototype_steps εᴾ ++ (Steps.done ∷ [])) ++ rest ≡ step_rows Steps.done ++ rest
 unfolding prototype_steps

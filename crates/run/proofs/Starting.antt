@@ -3,7 +3,7 @@ use Prim.Native.Nat.{ℕ, suc, ◌+◌, ◌*◌, ◌≤◌}
 use native.Mathlib.Omega.{arith}
 use native.Mathlib.Nat.{mul-le-mul_right}
 use mathlib.Core.Path.{◌≡◌, refl, sym, ◌∙◌, ap}
-use mathlib.Core.List.{List, [], ◌∷◌, ◌++◌, append_assoc, append_nil}
+use mathlib.Core.List.{List, [], ◌∷◌, ◌++◌, append_assoc, append-nil}
 use lib.ListN.{length, drop, length-append}
 use lib.Seq.{drop_at}
 use Rattle.paper.specs.Syntax.{Basic, boolean, null, integer, decimal, string, reference, vector, Basics, εⱽ, ◌∷ⱽ◌, Block}
@@ -121,7 +121,7 @@ module _ (f z : ℕ) (xs : List Row) (e : length (records 0 xs) ≡ z * length x
       ap (λ n. part_at (laid_out f xs) n (word_at 4 (laid_out f xs) 16)) starts
       ∙ ap (part_at (laid_out f xs) place) size
       ∙ part_there (laid_out f xs) tail [] place (length tail) (omega (arith, long)) refl
-      (behind (six ++ body) tail place (simp append_assoc) (simp (length-append, length_little)) ∙ sym (append_nil tail))
+      (behind (six ++ body) tail place (simp append_assoc) (simp (length-append, length_little)) ∙ sym (append-nil tail))
 
 -- ---- a step list
 
@@ -138,7 +138,7 @@ module _ (b : List ℕ) (d : Block) (h : IsStepList b d) where
   list_text = rw h.laid_out (text_there 1 20 (all_rows (steps d)) list_long (omega arith) h.listed.count h.listed.text)
 
   pub list_lies : Lies (records_of Steps b) (text_of b) 0 0 (all_rows (steps d) ++ [])
-  list_lies = rw append_nil (record { rows = list_records; text_there = list_text })
+  list_lies = rw append-nil (record { rows = list_records; text_there = list_text })
 
   pub list_few : length (records_of Steps b) ≤ 20480
   list_few = omega (arith, ap length list_records, list_long, h.listed.count)

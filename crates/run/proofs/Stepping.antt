@@ -4,7 +4,7 @@ use native.Mathlib.Omega.{arith}
 use native.Mathlib.Nat.{le_of_eq}
 use mathlib.Core.Path.{◌≡◌, refl, sym, ap, ◌∙◌, subst}
 use mathlib.Core.Logic.{◌⊎◌, inl, inr}
-use mathlib.Core.List.{List, [], ◌∷◌, ◌++◌, append_assoc, append_nil}
+use mathlib.Core.List.{List, [], ◌∷◌, ◌++◌, append_assoc, append-nil}
 use mathlib.Core.Option.{Option, none, some}
 use lib.ListN.{length, take, drop, get_or, length-append, length-drop}
 use lib.Seq.{drop_at, take_at, take_all, get_or-drop}
@@ -111,7 +111,7 @@ reference_there t u s s' p m r more N P h room low e =
     let l = length_places t (p + 1) m in
     let f = N.few in
     let a : names t u (drop 33024 s') m ≡ names t u (places t (p + 1) m) m = ap (λ x. names t u (drop 33024 x) m) N.is ∙ names_stored t u s 33024 (places t (p + 1) m) m (omega arith) (omega arith) in
-    let b : names t u (places t (p + 1) m) m ≡ r = (λ i. names t u (places t (p + 1) (c i)) (c i)) ∙ ap (λ x. names t u x (length r)) (sym (append_nil (places t (p + 1) (length r)))) ∙ Q.1 [] in
+    let b : names t u (places t (p + 1) m) m ≡ r = (λ i. names t u (places t (p + 1) (c i)) (c i)) ∙ ap (λ x. names t u x (length r)) (sym (append-nil (places t (p + 1) (length r)))) ∙ Q.1 [] in
     (c, a ∙ b)
 
 pub reference_kept : (t s s' : List ℕ) (p m : ℕ) → NamesPut t p s 33024 s' m → 65536 ≤ length s → ScopeKept s s'

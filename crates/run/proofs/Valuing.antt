@@ -4,7 +4,7 @@ use native.Mathlib.Omega.{arith}
 use native.Mathlib.Nat.{add-zero}
 use native.Mathlib.Numerals.{add-one}
 use mathlib.Core.Path.{◌≡◌, refl, sym, ◌∙◌, ap, ap₂, subst}
-use mathlib.Core.List.{List, [], ◌∷◌, ◌++◌, append_assoc, append_nil, map}
+use mathlib.Core.List.{List, [], ◌∷◌, ◌++◌, append_assoc, append-nil, map}
 use mathlib.Core.Logic.{◌⊎◌, inl, inr, ⊎_elim}
 use lib.ListN.{length, take, drop, get_or, length-append, length-drop}
 use lib.Seq.{drop_at, drop-drop, length-take-le}
@@ -227,7 +227,7 @@ goes_end list t i n q d s₀ s k l h G = record {
       let P = G.passed p e bs rest u L A m f in
       let c : length (each item e P.left) ≡ 0 = omega (arith, P.many) in
       let j : q + k ≡ q + n = omega arith in
-      ap (λ x. view t u s x) (sym j) ∙ sym (append_nil (view t u s (q + k))) ∙ ap (λ x. view t u s (q + k) ++ x) (sym (none_left e P.left d c)) ∙ P.rows;
+      ap (λ x. view t u s x) (sym j) ∙ sym (append-nil (view t u s (q + k))) ∙ ap (λ x. view t u s (q + k) ++ x) (sym (none_left e P.left d c)) ∙ P.rows;
 }
 
 -- the first of the items that are left

@@ -12,6 +12,7 @@
 // The slices lie on the stack, and so do the calls, which nest as the input does, up to 32 deep.
 // 640 KiB of stack are enough, 64 of them for the words and the environment that the program is started with.
 // This is measured and not proved: tools/try_commands reads the number here and runs the deepest inputs in so much.
+#![tactic(auto)]
 mod input;
 mod output;
 

@@ -1,4 +1,5 @@
 // Tables: whether bytes are one, and a look into one.
+#![tactic(auto)]
 mod child;
 mod once;
 mod walk;

@@ -1,4 +1,5 @@
 // One token from the rest of the source.
+#![tactic(auto)]
 mod class;
 mod gaps;
 mod names;

@@ -1,4 +1,5 @@
 // Operation 1: from a description to its step list.
+#![tactic(auto)]
 mod answer;
 mod list;
 mod path;

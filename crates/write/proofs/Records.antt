@@ -3,7 +3,7 @@ use Prim.Native.Nat.{ℕ, suc, ◌+◌, ◌*◌, ◌-◌, ◌/◌, ◌%◌, ◌�
 use native.Mathlib.Omega.{arith}
 use native.Mathlib.Numerals.{add-one}
 use mathlib.Core.Path.{◌≡◌, ◌∙◌, ap}
-use mathlib.Core.List.{List, [], ◌∷◌, ◌++◌, append_assoc, append_nil}
+use mathlib.Core.List.{List, [], ◌∷◌, ◌++◌, append_assoc, append-nil}
 use lib.ListN.{length, drop, length-append, length-drop}
 use lib.Dec.{ltb}
 use mathlib.Core.Bool.{Bool, true, false}
@@ -116,7 +116,7 @@ module _ (t u w : List ℕ) (i up pos : ℕ) (xs : List Row) where
   unfolding row_bytes Layout.row_bytes spanned_row row_here
   row_is k d₀ d p l m v y a ek ed₀ ed ep el em ea ev ey =
       let f = figure (pos + length a) (value_of t u k v (field_at 2 w i 6 - length a)) in
-      rw (ey, em, el, little_cut (figure pos (label_of t u p)), ev, ed, ea, ep, ed₀, ek, append_nil)
+      rw (ey, em, el, little_cut (figure pos (label_of t u p)), ev, ed, ea, ep, ed₀, ek, append-nil)
 
   pub record_put : (k d₀ d p l m v y : ℕ) (a o o' : List ℕ) (at : ℕ) → k ≡ field_at 2 w i 0 → d₀ ≡ field_at 2 w i 2 → d ≡ d₀ - up → p ≡ field_at 2 w i 4 → l ≡ figure pos (label_of t u p) % 65536
       → m ≡ (spanned_row 0 (row_here t u w i) xs).span → a ≡ text_of (row_here t u w i).label → v ≡ field_at 8 w i 8 → y ≡ figure (pos + length a) (value_of t u k v (field_at 2 w i 6 - length a))

@@ -3,7 +3,7 @@ use Prim.Native.Nat.{ℕ, suc, ◌+◌, ◌*◌, ◌-◌, ◌≤◌}
 use native.Mathlib.Omega.{arith}
 use native.Mathlib.Nat.{zero-add}
 use mathlib.Core.Path.{◌≡◌, refl, sym, ◌∙◌, ap, ap₂, subst}
-use mathlib.Core.List.{List, [], ◌∷◌, ◌++◌, append_assoc, append_nil, map}
+use mathlib.Core.List.{List, [], ◌∷◌, ◌++◌, append_assoc, append-nil, map}
 use lib.ListN.{length, take, drop, length-append}
 use lib.Seq.{take_all, take_at, drop_at}
 use borrow.Author.Tests.{le-leb}
@@ -117,7 +117,7 @@ mutual
 pub spanned_flat : (up d : ℕ) (s : Store) → spanned up (flat (up + d) s) ≡ rows d s
 unfolding spanned
 spanned_flat up d s =
-    ap (spanned up) (sym (append_nil (flat (up + d) s))) ∙ spanned_rest up d s [] tt ∙ append_nil (rows d s)
+    ap (spanned up) (sym (append-nil (flat (up + d) s))) ∙ spanned_rest up d s [] tt ∙ append-nil (rows d s)
 
 -- ---- tables
 

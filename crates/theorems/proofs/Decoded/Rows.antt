@@ -4,7 +4,7 @@ use native.Mathlib.Omega.{arith}
 use native.Mathlib.Nat.{add-zero, add_assoc}
 use mathlib.Core.Path.{◌≡◌, refl, sym, ◌∙◌, ap, subst}
 use mathlib.Core.Bool.{Bool, true, false, false≢true}
-use mathlib.Core.List.{List, [], ◌∷◌, ◌++◌, append_assoc, append_nil}
+use mathlib.Core.List.{List, [], ◌∷◌, ◌++◌, append_assoc, append-nil}
 use mathlib.Core.Option.{Option, some}
 use lib.ListN.{length, length-append}
 use lib.Dec.{T, eqb}
@@ -99,9 +99,9 @@ pub front_one : {w : ℕ} {x : Raw} {r : Row} {a b c d : Cursor} → Record w x 
 unfolding records texts row_text
 front_one {w} {x} {r} {a} {b} {c} {d} f g h e =
     record {
-      recs = rw (e, append_nil (raw_bytes w x), f.recs, g.recs, h.recs);
-      text = rw (append_nil (text_of r.label ++ text_of r.value), append_assoc (text_of r.label) (text_of r.value) d.text, f.text, g.text, h.text);
-      pos = rw (append_nil (text_of r.label ++ text_of r.value), length-append (text_of r.label) (text_of r.value)) (omega (arith, f.pos, g.pos, h.pos));
+      recs = rw (e, append-nil (raw_bytes w x), f.recs, g.recs, h.recs);
+      text = rw (append-nil (text_of r.label ++ text_of r.value), append_assoc (text_of r.label) (text_of r.value) d.text, f.text, g.text, h.text);
+      pos = rw (append-nil (text_of r.label ++ text_of r.value), length-append (text_of r.label) (text_of r.value)) (omega (arith, f.pos, g.pos, h.pos));
     }
 
 pub front_end : {r : Row} {a b : Cursor} → Front (r ∷ []) a b → b.pos < 65536 → a.pos + length (text_of r.label) + length (text_of r.value) < 65536
@@ -126,9 +126,9 @@ split_one {w} {x} {r} {a} {d} f e n =
     record {
       after_record = record { recs = d.recs; text = a.text; pos = a.pos };
       after_label = record { recs = d.recs; text = v ++ d.text; pos = a.pos + length l };
-      own = record { recs = f.recs ∙ rw (e, append_nil (raw_bytes w x)); text = refl; pos = refl; narrow = n };
-      label = record { recs = refl; text = f.text ∙ rw (append_nil (l ++ v), append_assoc l v d.text); pos = refl };
-      value = record { recs = refl; text = refl; pos = f.pos ∙ rw (append_nil (l ++ v), length-append l v) (omega arith) };
+      own = record { recs = f.recs ∙ rw (e, append-nil (raw_bytes w x)); text = refl; pos = refl; narrow = n };
+      label = record { recs = refl; text = f.text ∙ rw (append-nil (l ++ v), append_assoc l v d.text); pos = refl };
+      value = record { recs = refl; text = refl; pos = f.pos ∙ rw (append-nil (l ++ v), length-append l v) (omega arith) };
     }
 
 pub stays : {at after : Cursor} → Took [] at after → at ≡ after

@@ -4,7 +4,7 @@ use native.Mathlib.Omega.{arith}
 use native.Mathlib.Nat.{add-zero}
 use mathlib.Core.Path.{◌≡◌, refl, sym, ◌∙◌, ap, subst}
 use mathlib.Core.Bool.{Bool, true, false, false≢true, ◌&&◌}
-use mathlib.Core.List.{List, [], ◌∷◌, ◌++◌, append_assoc, append_nil}
+use mathlib.Core.List.{List, [], ◌∷◌, ◌++◌, append_assoc, append-nil}
 use mathlib.Core.Option.{some}
 use mathlib.Core.Logic.{◌↔◌}
 use lib.ListN.{length, length-append}
@@ -183,7 +183,7 @@ some_sound (block b ps) e = tt
 
 set_rows : (p : ℕ) (l : Path) (b : Basic) (d : ℕ) → all_rows (set p l b ∷ []) ≡ step_row 6 (kind b) (text (path_text l)) (suc (length (elements item d b))) (content b) p ∷ elements item d b
 unfolding all_rows step_rows
-set_rows p l b d = append_nil (step_rows (set p l b)) ∙ ap (λ xs. step_row 6 (kind b) (text (path_text l)) (suc (length xs)) (content b) p ∷ xs) (item_depth b 0 d)
+set_rows p l b d = append-nil (step_rows (set p l b)) ∙ ap (λ xs. step_row 6 (kind b) (text (path_text l)) (suc (length xs)) (content b) p ∷ xs) (item_depth b 0 d)
 
 set_read : (d : ℕ) (l : Path) (x : Raw) {at at₁ at₂ : Cursor} (b : Basic) (at₃ : Cursor) → Record 4 x at at₁ → Fielded path_text IsPath x.label at₁ (l, at₂) → x.place < 32768 → d ≤ 32 → x.first ≡ 6
     → BasicRead in_steps item steps_lawful d x.second x.span x.value at₂ (b, at₃) → ValueRead d l at (basic x.place b, at₃)
@@ -333,8 +333,8 @@ unfolding step_list
 block_read b x d at h g e =
     let xs = all_rows (steps d) in
     let k : length (records 0 xs) ≡ 20 * length xs = records_length 4 xs 0 (steps_lasts (steps d)) in
-    let r₁ : x.1.recs ≡ records 0 xs = g.front.recs ∙ rw (h.start, e.recs) (append_nil (records 0 xs)) in
-    let t₁ : x.1.text ≡ texts xs = g.front.text ∙ rw e.text (append_nil (texts xs)) in
+    let r₁ : x.1.recs ≡ records 0 xs = g.front.recs ∙ rw (h.start, e.recs) (append-nil (records 0 xs)) in
+    let t₁ : x.1.text ≡ texts xs = g.front.text ∙ rw e.text (append-nil (texts xs)) in
     let k₁ : length x.1.recs ≡ length (records 0 xs) = ap length r₁ in
     let n : length xs ≡ x.0 = omega (arith, h.recs) in
     record {
@@ -604,7 +604,7 @@ steps_complete b d h =
     let e : b ≡ headed 1 (length xs) (24 + 20 * length xs) (records 0 xs) (texts xs) = h.laid_out ∙ laid_out_headed 1 20 xs k in
     let start : Cursor = record { recs = records 0 xs; text = texts xs; pos = 0 } in
     let stop : Cursor = record { recs = []; text = []; pos = 0 + length (texts xs) } in
-    let fr : Front xs start stop = record { recs = sym (append_nil (records 0 xs)); text = sym (append_nil (texts xs)); pos = refl } in
+    let fr : Front xs start stop = record { recs = sym (append-nil (records 0 xs)); text = sym (append-nil (texts xs)); pos = refl } in
     rw (
       e,
       header_complete 1 20 1024 32768 (length xs) (records 0 xs) (texts xs) (omega arith) k h.listed.count (omega arith) h.listed.text (omega (arith, h.listed.count, h.listed.text)),

@@ -4,7 +4,7 @@ use native.Mathlib.Omega.{arith}
 use native.Mathlib.Nat.{add-zero}
 use mathlib.Core.Path.{◌≡◌, refl, sym, ◌∙◌, ap, subst}
 use mathlib.Core.Bool.{Bool, true, false, false≢true, ◌&&◌}
-use mathlib.Core.List.{List, [], ◌∷◌, ◌++◌, append_nil}
+use mathlib.Core.List.{List, [], ◌∷◌, ◌++◌, append-nil}
 use mathlib.Core.Option.{Option, none, some}
 use mathlib.Core.Logic.{◌↔◌}
 use lib.ListN.{length, length-append}
@@ -253,8 +253,8 @@ table_sound b =
     found_require _ _ (λ u.
     let xs = rows 1 y.0 in
     let n : length xs ≡ x.0 = g.sized in
-    let r₁ : x.1.recs ≡ records 0 xs = g.front.recs ∙ rw (h.start, e.recs) (append_nil (records 0 xs)) in
-    let t₁ : x.1.text ≡ texts xs = g.front.text ∙ rw e.text (append_nil (texts xs)) in
+    let r₁ : x.1.recs ≡ records 0 xs = g.front.recs ∙ rw (h.start, e.recs) (append-nil (records 0 xs)) in
+    let t₁ : x.1.text ≡ texts xs = g.front.text ∙ rw e.text (append-nil (texts xs)) in
     let k : length (records 0 xs) ≡ 16 * length xs = sym (ap length r₁) ∙ h.recs ∙ ap (λ i. 16 * i) (sym n) in
     found (record {
       laid_out = h.bytes ∙ rw (r₁, t₁, ← n) (sym (laid_out_headed 2 16 xs k));
@@ -417,7 +417,7 @@ table_complete b s h =
     let e : b ≡ headed 2 (length xs) (24 + 16 * length xs) (records 0 xs) (texts xs) = h.laid_out ∙ laid_out_headed 2 16 xs k in
     let start : Cursor = record { recs = records 0 xs; text = texts xs; pos = 0 } in
     let stop : Cursor = record { recs = []; text = []; pos = 0 + length (texts xs) } in
-    let fr : Front xs start stop = record { recs = sym (append_nil (records 0 xs)); text = sym (append_nil (texts xs)); pos = refl } in
+    let fr : Front xs start stop = record { recs = sym (append-nil (records 0 xs)); text = sym (append-nil (texts xs)); pos = refl } in
     rw (
       e,
       header_complete 2 16 1024 16384 (length xs) (records 0 xs) (texts xs) (omega arith) k h.held.bounds.nodes (omega arith) h.held.bounds.text (omega (arith, h.held.bounds.nodes, h.held.bounds.text)),

@@ -6,7 +6,7 @@ use mathlib.Core.Bool.{Bool, true, false, true≢false, ◌||◌}
 use mathlib.Core.List.{List, [], ◌∷◌}
 use mathlib.Core.Option.{Option, none, some}
 use lib.ListN.{length, take, drop, length-take, length-drop, get_or-eq_default}
-use lib.Seq.{take-take, get_or-take, take-nil, length-take-le, take_length}
+use lib.Seq.{take-take, get_or-take, take-nil, length-take-le, take-length}
 use lib.IntN.{ℤ}
 use lib.Dec.{ltb, eqb, lit≤}
 use borrow.Author.Tests.{ltb-true, ltb-false, leb-true, eqb-false, le-leb}
@@ -291,12 +291,12 @@ decimal_again s m h =
 
 pub named_whole : (n : List ℕ) (m : List ℕ) (k : ℕ) → scan n ≡ token (name m) k → k ≡ length n → scan n ≡ token (name n) (length n)
 named_whole n m k e q =
-    let p : m ≡ n = (name_shape (scan_shape n) e).0 ∙ ap (λ i. take i n) q ∙ take_length n in
+    let p : m ≡ n = (name_shape (scan_shape n) e).0 ∙ ap (λ i. take i n) q ∙ take-length n in
     cc
 
 pub decimal_whole : (n : List ℕ) (m : List ℕ) (k : ℕ) → scan n ≡ token (literal (decimal m)) k → k ≡ length n → scan n ≡ token (literal (decimal n)) (length n)
 decimal_whole n m k e q =
-    let p : m ≡ n = (decimal_shape (scan_shape n) e).0 ∙ ap (λ i. take i n) q ∙ take_length n in
+    let p : m ≡ n = (decimal_shape (scan_shape n) e).0 ∙ ap (λ i. take i n) q ∙ take-length n in
     cc
 
 pub name_short : (n : List ℕ) → scan n ≡ token (name n) (length n) → length n ≤ 255

@@ -3,7 +3,7 @@ use Prim.Native.Nat.{ℕ, ◌≤◌}
 use native.Mathlib.Omega.{arith}
 use mathlib.Core.Path.{◌≡◌, refl, sym, ◌∙◌, ap, subst}
 use mathlib.Core.Bool.{false}
-use mathlib.Core.List.{List, [], ◌∷◌, ◌++◌, append_nil}
+use mathlib.Core.List.{List, [], ◌∷◌, ◌++◌, append-nil}
 use lib.ListN.{length, length-append}
 use Rattle.paper.specs.Syntax.{decimal}
 use Rattle.paper.specs.Tokens.{starts, digit, goes_on, reserved, member, Token, name, literal}
@@ -27,7 +27,7 @@ alone_written : (s : List ℕ) (t : Token) → scan s ≡ token t (length s) →
 alone_written s t e = go (find s) e
   where
     by : (w r : List ℕ) {u : Token} {x : Scanned} → Written w u → Limit u (length w) x → x ≡ token t (length (w ++ r)) → Written (w ++ r) t
-    by w [] h (within f) e = subst (λ v. Written v t) (sym (append_nil w)) (subst (Written w) (same_token e) h)
+    by w [] h (within f) e = subst (λ v. Written v t) (sym (append-nil w)) (subst (Written w) (same_token e) h)
     by w (b ∷ r) h (within f) e = let l = same_length e in absurd (omega (arith, length-append w (b ∷ r)))
     by w r h (over o) e = no_fault e
 
@@ -37,7 +37,7 @@ alone_written s t e = go (find s) e
 
 -- and what is written so, within its limit, the scanner says is all
 written_alone : (s : List ℕ) (t : Token) → Written s t → Apart t [] → ((n : ℕ) → Over t n → ⊥) → scan s ≡ token t (length s)
-written_alone s t h a f = ap scan (sym (append_nil s)) ∙ go (scan_writes h [] a)
+written_alone s t h a f = ap scan (sym (append-nil s)) ∙ go (scan_writes h [] a)
   where
     go : {x : Scanned} → Limit t (length s) x → x ≡ token t (length s)
     go (within g) = refl

@@ -4,7 +4,7 @@ use Prim.Native.Char.{code}
 use native.Mathlib.Omega.{arith}
 use mathlib.Core.Path.{◌≡◌, refl, sym, ◌∙◌, ap, subst}
 use mathlib.Core.Bool.{Bool, true, false, true≢false, not, ◌||◌}
-use mathlib.Core.List.{List, [], ◌∷◌, ◌++◌, append_assoc, append_nil}
+use mathlib.Core.List.{List, [], ◌∷◌, ◌++◌, append_assoc, append-nil}
 use mathlib.Core.Option.{none}
 use lib.ListN.{length, length-append}
 use lib.IntN.{ℤ}
@@ -177,7 +177,7 @@ scan_longest {x = x} {y = y} W X Y r g p =
 
 writes_integer : {w : List ℕ} → Whole w → (r : List ℕ) → goes_on (at r 0) ≡ false → is "." (at r 0) ≡ false → Limit (literal (integer (valued w))) (length w) (scan (w ++ r))
 writes_integer {w} W r g p =
-    let e : scan (w ++ r) ≡ number (length w) (length w) (w ++ r) = rw (append_nil w) at (scan_longest W Form.none Form.none r g p) in
+    let e : scan (w ++ r) ≡ number (length w) (length w) (w ++ r) = rw (append-nil w) at (scan_longest W Form.none Form.none r g p) in
     rw e (number_integer w r g p (some_whole W))
 
 pub scan_writes : {w : List ℕ} {t : Token} → Written w t → (r : List ℕ) → Apart t r → Limit t (length w) (scan (w ++ r))
@@ -203,7 +203,7 @@ unfolding number if◌then◌else◌
 judge {w} {x} {y} W X Y r e = go (goes_on (at r 0) || is "." (at r 0)) refl X Y e
   where
     longest : {x y : List ℕ} → goes_on (at r 0) ≡ false → is "." (at r 0) ≡ false → Fraction x → Exponent y → Word ((w ++ (x ++ y)) ++ r)
-    longest g p Form.none Form.none = subst (λ v. Word (v ++ r)) (sym (append_nil w)) (word r (an_integer W) (g, p))
+    longest g p Form.none Form.none = subst (λ v. Word (v ++ r)) (sym (append-nil w)) (word r (an_integer W) (g, p))
     longest g p Form.none (Form.unsigned {e = e} {w = u} i d) = word r (a_decimal W Form.none (Form.unsigned {e = e} {w = u} i d) (omega arith)) (g, p)
     longest g p Form.none (Form.signed {e = e} {s = s} {w = u} i j d) = word r (a_decimal W Form.none (Form.signed {e = e} {s = s} {w = u} i j d) (omega arith)) (g, p)
     longest {y = y} g p (Form.point {w = u} d) Y = word r (a_decimal {y = y} W (Form.point {w = u} d) Y (omega arith)) (g, p)
