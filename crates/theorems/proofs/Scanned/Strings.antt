@@ -65,9 +65,9 @@ pub quoted_writes : {w t : List ℕ} → Quoted w t → (r : List ℕ) (f : ℕ)
 unfolding quoted
 quoted_writes q r zero l = absurd (omega (arith, some_quoted q))
 quoted_writes closed r (suc f) l = refl
-quoted_writes (plain {b} {w} e q) r (suc f) l = quoted_step (b ∷ []) (w ++ r) f _ (means_plain b e) (quoted_writes q r f (omega arith)) (omega arith)
-quoted_writes (escape {e} {b} {w} h q) r (suc f) l = quoted_step (92 ∷ e ∷ []) (w ++ r) f _ (means_escape e b h) (quoted_writes q r f (omega arith)) (omega arith)
-quoted_writes (octals {x} {y} {z} {w} e i j q) r (suc f) l = quoted_step (92 ∷ x ∷ y ∷ z ∷ []) (w ++ r) f _ (means_octals x y z e i j) (quoted_writes q r f (omega arith)) (omega arith)
+quoted_writes (plain {b} {w} e q) r (suc f) l = quoted_step (b ∷ []) (w ++ r) f _ (means_plain b e) (quoted_writes {w = w} q r f (omega arith)) (omega arith)
+quoted_writes (escape {e} {b} {w} h q) r (suc f) l = quoted_step (92 ∷ e ∷ []) (w ++ r) f _ (means_escape e b h) (quoted_writes {w = w} q r f (omega arith)) (omega arith)
+quoted_writes (octals {x} {y} {z} {w} e i j q) r (suc f) l = quoted_step (92 ∷ x ∷ y ∷ z ∷ []) (w ++ r) f _ (means_octals x y z e i j) (quoted_writes {w = w} q r f (omega arith)) (omega arith)
 
 -- ---- what is read is written
 
