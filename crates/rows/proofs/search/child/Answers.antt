@@ -1,0 +1,40 @@
+-- `rows::search::child` meets its contract: from every row that is passed on, the same is found. Assumes nothing.
+use Prim.Native.Nat.{◌-◌}
+use native.Mathlib.Omega.{arith}
+use mathlib.Core.Path.{refl, sym, ap, ◌∙◌}
+use mathlib.Core.Logic.{⊎_elim}
+use Rattle.rows.specs.View.{label_of}
+use Rattle.rows.specs.Search.{calls}
+use Rattle.rows.proofs.Searches.{seeks_none, seeks_above, seeks_hit, seeks_other, seeks_under}
+use Rattle.rows.proofs.search.child.Goals as goal
+
+pub loop-i-init : goal.loop-i-init
+loop-i-init c = refl
+
+pub returns-then-deep-d : goal.returns-then-deep-d
+returns-then-deep-d c =
+    let a = c.args in
+    let l = c.loop-i in
+    sym (l.invariant ∙ seeks_above a.t.now a.u.now a.w.now a.n c.count-k.result a.name.now a.d l.i c.count-k.ensures c.loop-i-test.true (omega (arith, c.half-deep.ensures.0, c.if-deep-d.true)))
+
+pub returns-then-is_named : goal.returns-then-is_named
+returns-then-is_named c =
+    let a = c.args in
+    let l = c.loop-i in
+    let named = sym c.if-is_named.true ∙ c.is_named.ensures ∙ ap (λ p. calls (label_of a.t.now a.u.now p) a.name.now) c.half.ensures.0 in
+    sym (l.invariant ∙ seeks_hit a.t.now a.u.now a.w.now a.n c.count-k.result a.name.now a.d l.i c.count-k.ensures c.loop-i-test.true (sym c.half-deep.ensures.0 ∙ c.if-deep-d-2.true) named)
+
+pub loop-i-preserved : goal.loop-i-preserved
+loop-i-preserved c =
+    let a = c.args in
+    let l = c.loop-i in
+    l.invariant ∙ ⊎_elim
+    (λ w. seeks_other a.t.now a.u.now a.w.now a.n c.count-k.result a.name.now a.d l.i c.count-k.ensures c.loop-i-test.true (sym c.half-deep.ensures.0 ∙ w.0.taken) (sym w.3.left ∙ w.2.ensures ∙ ap (λ p. calls (label_of a.t.now a.u.now p) a.name.now) w.1.ensures.0))
+    (λ w. seeks_under a.t.now a.u.now a.w.now a.n c.count-k.result a.name.now a.d l.i c.count-k.ensures c.loop-i-test.true (omega (arith, c.half-deep.ensures.0, c.if-deep-d.false, w.left)))
+    c.if-deep-d-2.branch
+
+pub returns : goal.returns
+returns c =
+    let a = c.args in
+    let l = c.loop-i in
+    sym (l.invariant ∙ seeks_none a.t.now a.u.now a.w.now a.n c.count-k.result a.name.now a.d l.i c.count-k.ensures c.loop-i-test.false)
