@@ -1,0 +1,11 @@
+use mathlib.Core.Path.{◌≡◌}
+use Prim.Native.Nat.{◌-◌, ◌≤◌}
+use lib.ListN.{length, drop}
+use Rattle.tokens.specs.Gaps.{skips}
+use Rattle.tokens.proofs.gaps.skip.Given as goal
+
+abbrev pub invariant-loop-i : goal.invariant-loop-i
+invariant-loop-i l = (l.i ≤ length l.s) × (skips 0 l.s ≡ skips l.i (drop l.i l.s))
+
+abbrev pub decreases-loop-i : goal.decreases-loop-i
+decreases-loop-i l = length l.s - l.i

@@ -1,0 +1,10 @@
+use mathlib.Core.Path.{◌≡◌}
+use Prim.Native.Nat.{ℕ, ◌-◌, ◌≤◌, ◌<◌}
+use lib.ListN.{get_or}
+use Rattle.tokens.proofs.names.is_word.Given as goal
+
+abbrev pub invariant-loop-j : goal.invariant-loop-j
+invariant-loop-j l = (l.j ≤ l.n) × ((k : ℕ) → k < l.j → get_or l.name k 0 ≡ get_or l.word k 0)
+
+abbrev pub decreases-loop-j : goal.decreases-loop-j
+decreases-loop-j l = l.n - l.j
