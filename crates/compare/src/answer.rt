@@ -1,7 +1,7 @@
 // The operations by their numbers, with one kind of answer.
 
 // A refusal's number and place, or 0 and the output's length.
-#[derive(Drop)]
+#[derive(Clone, Copy)]
 pub struct Answer {
     pub number: usize,
     pub value: usize,

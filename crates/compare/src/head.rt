@@ -1,7 +1,7 @@
 // What stands before a case's bytes: twelve numbers of 32 bits, the lowest byte first.
 use libc::STDIN_FILENO;
 
-#[derive(Drop)]
+#[derive(Clone, Copy)]
 pub struct Head {
     // 0 translate, 1 run, 2 main, 3 resolve.
     pub operation: usize,

@@ -4,7 +4,7 @@ use crate::head::Head;
 use libc::STDOUT_FILENO;
 
 // The answer, and whether each array holds what it should.
-#[derive(Drop)]
+#[derive(Clone, Copy)]
 pub struct Seen {
     pub answer: Answer,
     pub first: bool,

@@ -6,7 +6,7 @@ ghost use Rattle.forms.specs.Form.{form_of, size_of, number_of, most_text, top_o
 
 use fields::{depth_at, kind_at, label_at, place_at, step_at};
 
-#[derive(Drop)]
+#[derive(Clone, Copy)]
 pub enum Form {
     Table,
     Steps,

@@ -6,7 +6,7 @@ ghost use Rattle.forms.specs.Header.{SizeIs, records_of, text_of};
 use crate::form::{Form, most_text, number, size};
 use memory::{get32, part};
 
-#[derive(Drop)]
+#[derive(Clone, Copy)]
 pub enum Size {
     Records(usize),
     Unfit,

@@ -7,7 +7,7 @@ use crate::path::{Path, read_path};
 use crate::token::{Literal, Seen, Word, token_at};
 
 // The basic kinds with their data. A text is kept as the place where it stands and the bytes that it will take.
-#[derive(Drop)]
+#[derive(Clone, Copy)]
 pub enum Basic {
     Boolean(bool),
     Null,
@@ -19,7 +19,7 @@ pub enum Basic {
 }
 
 // What was found, and where the source goes on; or the number and the place of the refusal.
-#[derive(Drop)]
+#[derive(Clone, Copy)]
 pub enum Found {
     Basic(Basic, usize),
     Fault(usize, usize),
@@ -79,7 +79,7 @@ pub(crate) fn find_basic(src: &[u8], at: usize) -> Found
 }
 
 // A basic as a draft has it: kind, value and size; or a vector, of which only the bracket, at a place, is read.
-#[derive(Drop)]
+#[derive(Clone, Copy)]
 pub enum Laid {
     Plain(u16, u64, usize),
     Opened(usize),

@@ -4,7 +4,7 @@ ghost use Rattle.grammar.specs.Went.{moved_to, PassIs};
 
 use crate::token::{Took, mark};
 
-#[derive(Drop)]
+#[derive(Clone, Copy)]
 pub struct Cursor {
     pub at: usize,
     pub count: usize,
@@ -12,7 +12,7 @@ pub struct Cursor {
 }
 
 // Where it then stands, or the number and the place of the refusal.
-#[derive(Drop)]
+#[derive(Clone, Copy)]
 pub enum Went {
     Done(Cursor),
     Refused(usize, usize),

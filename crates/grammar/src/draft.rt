@@ -6,7 +6,7 @@ pub const STORED: usize = 1024;
 
 pub const SIZE: usize = 20;
 
-#[derive(Drop)]
+#[derive(Clone, Copy)]
 pub struct Entry {
     pub step: u16,
     pub kind: u16,

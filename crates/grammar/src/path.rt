@@ -7,7 +7,7 @@ use crate::token::{Ahead, Seen, follows, token_at};
 pub const NAMES: usize = 32;
 
 // A name that has to stand here.
-#[derive(Drop)]
+#[derive(Clone, Copy)]
 pub enum Named {
     At { place: usize, next: usize },
     Missing { number: usize, place: usize },
@@ -40,7 +40,7 @@ fn name(src: &[u8], at: usize) -> Named
 }
 
 // A whole reference: where the source goes on, and how many bytes of text it will take.
-#[derive(Drop)]
+#[derive(Clone, Copy)]
 pub enum Path {
     Whole { next: usize, size: usize },
     Broken { number: usize, place: usize },
@@ -81,7 +81,7 @@ pub(crate) fn read_path(src: &[u8], at: usize) -> Path
 }
 
 // A reference that may stand here.
-#[derive(Drop)]
+#[derive(Clone, Copy)]
 pub enum Reference {
     Here {
         place: usize,

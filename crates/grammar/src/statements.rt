@@ -10,7 +10,7 @@ use crate::value::{Begun, Value, find_value};
 use crate::vectors::{Own, read_basic};
 
 // A statement's target: where its path stands, and the bytes that it will take.
-#[derive(Drop)]
+#[derive(Clone, Copy)]
 pub struct Target {
     pub place: usize,
     pub size: usize,

@@ -5,7 +5,7 @@ ghost use Rattle.grammar.specs.Seen.{word_of, seen_of, SeenIs, TookIs, FollowsIs
 use tokens::{Kind, Token, next_token};
 
 // The reserved words that the grammar has a use for, and the others.
-#[derive(Drop)]
+#[derive(Clone, Copy)]
 pub enum Word {
     Extends,
     Data,
@@ -16,7 +16,7 @@ pub enum Word {
 }
 
 // An integer's bits; a string's decoded length.
-#[derive(Drop)]
+#[derive(Clone, Copy)]
 pub enum Literal {
     Integer(u64),
     Decimal,
@@ -24,7 +24,7 @@ pub enum Literal {
 }
 
 // The next token: where it stands, and where the source goes on.
-#[derive(Drop)]
+#[derive(Clone, Copy)]
 pub enum Seen {
     Name {
         place: usize,
@@ -116,7 +116,7 @@ pub(crate) fn token_at(src: &[u8], at: usize) -> Seen
 }
 
 // A mark that has to stand here.
-#[derive(Drop)]
+#[derive(Clone, Copy)]
 pub enum Took {
     At { place: usize, next: usize },
     Missing { number: usize, place: usize },
@@ -154,7 +154,7 @@ pub(crate) fn mark(src: &[u8], at: usize, byte: u8) -> Took
 }
 
 // A mark that may stand here: its place, and where the source goes on; or the number and the place of a refusal.
-#[derive(Drop)]
+#[derive(Clone, Copy)]
 pub enum Ahead {
     Yes(usize, usize),
     No,
@@ -193,7 +193,7 @@ pub(crate) fn follows(src: &[u8], at: usize, byte: u8) -> Ahead
 }
 
 // Whether the source ends here, or what is refused.
-#[derive(Drop)]
+#[derive(Clone, Copy)]
 pub enum Ending {
     Ended,
     Refused { number: usize, place: usize },

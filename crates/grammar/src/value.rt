@@ -7,14 +7,14 @@ use crate::path::{Path, read_path};
 use crate::token::{Seen, Word, token_at};
 
 // The three sorts: a basic; a link to the reference at a place, its text of so many bytes; `extends`.
-#[derive(Drop)]
+#[derive(Clone, Copy)]
 pub enum Value {
     Basic(Basic),
     Link { place: usize, size: usize },
     Extends,
 }
 
-#[derive(Drop)]
+#[derive(Clone, Copy)]
 pub enum Begun {
     Value { value: Value, next: usize },
     Fault { number: usize, place: usize },

@@ -9,7 +9,7 @@ use crate::draft::{Entry, put};
 use crate::token::{Ahead, follows};
 
 // What a basic is for: a set or an item, where its path stands, its source place, and the bytes that its path will take.
-#[derive(Drop)]
+#[derive(Clone, Copy)]
 pub struct Own {
     pub step: u16,
     pub path: usize,

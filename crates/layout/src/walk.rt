@@ -7,7 +7,7 @@ use forms::{Form, element_fits, kind_of, size, top};
 use memory::fits;
 use texts::{Past, leaf};
 
-#[derive(Drop)]
+#[derive(Clone, Copy)]
 pub enum Walk {
     Walked { record: usize, text: usize },
     Wrong,

@@ -14,7 +14,7 @@ const MAIN: [u8; 8] = *b"sfConfig";
 
 const SMALLEST: usize = 32792;
 
-#[derive(Drop)]
+#[derive(Clone, Copy)]
 pub enum Answer {
     Done(usize),
     Refused(usize, usize),

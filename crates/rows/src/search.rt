@@ -7,7 +7,7 @@ ghost use Rattle.rows.specs.Search.{seek, sought, deeper, text_bytes};
 use crate::row::half;
 use crate::text::is_named;
 
-#[derive(Drop)]
+#[derive(Clone, Copy)]
 pub enum Found {
     At(usize),
     Nothing,

@@ -14,7 +14,7 @@ const PATH: usize = 32768;
 const RECORDS: usize = 1024;
 
 // Where the run goes on, with the size of the store; or a refusal.
-#[derive(Drop)]
+#[derive(Clone, Copy)]
 pub enum Went {
     Next {
         record: usize,

@@ -14,7 +14,7 @@ const OUTPUT: usize = 32792;
 
 const WORK: usize = 65536;
 
-#[derive(Drop)]
+#[derive(Clone, Copy)]
 pub enum Answer {
     Done(usize),
     Refused(usize, usize),

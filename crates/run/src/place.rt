@@ -9,7 +9,7 @@ use rows::search::{Found, child};
 use rows::text::name_of;
 
 // The rows of a component's attributes begin here; or a name of the path is absent, or has no component.
-#[derive(Drop)]
+#[derive(Clone, Copy)]
 pub enum Place {
     In(usize),
     Absent,

@@ -11,14 +11,14 @@ use rows::search::{Found, child, deepest_of, end_of, text_of};
 use rows::text::name_of;
 
 // How many rows the store has, and how many text bytes.
-#[derive(Drop)]
+#[derive(Clone, Copy)]
 pub struct Size {
     pub rows: usize,
     pub text: usize,
 }
 
 // What became of a step: the size of the store, or a refusal's number.
-#[derive(Drop)]
+#[derive(Clone, Copy)]
 pub enum Ran {
     Done { rows: usize, text: usize },
     Refused(usize),

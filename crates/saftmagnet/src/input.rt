@@ -1,7 +1,7 @@
 // Bytes in: a descriptor read to its end or to the end of a buffer, and a file by its name.
 use memory::part;
 
-#[derive(Drop)]
+#[derive(Clone, Copy)]
 pub enum Read {
     Bytes(usize),
     Fault,

@@ -14,14 +14,14 @@ const THREE: usize = 51;
 const SEVEN: usize = 55;
 
 // A byte of a string as it is meant, and how many bytes of the source mean it.
-#[derive(Drop)]
+#[derive(Clone, Copy)]
 pub enum Meant {
     Byte { byte: u8, len: usize },
     Bad,
 }
 
 // A string up to its closing quote: how many bytes it means, and where it ends.
-#[derive(Drop)]
+#[derive(Clone, Copy)]
 pub enum Quoted {
     Closed { count: usize, end: usize },
     Unclosed,

@@ -7,7 +7,7 @@ use fields::{label_at, span_at};
 use memory::{fits, part};
 use texts::byte;
 
-#[derive(Drop)]
+#[derive(Clone, Copy)]
 pub enum Found {
     At(usize),
     Nothing,

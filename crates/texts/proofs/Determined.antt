@@ -3,7 +3,7 @@ use Prim.Native.Nat.{ℕ}
 use mathlib.Core.Path.{◌≡◌, sym, ap, ◌∙◌}
 use mathlib.Core.List.{List, []}
 use mathlib.Core.Option.{Option, some-injective}
-use Rattle.paper.specs.Decoder.{Cursor}
+use Rattle.paper.specs.Decoder.{Cursor, leaf, field, name_of, path_of}
 use Rattle.paper.specs.DecodeAt.{cursor}
 use Rattle.paper.specs.Determines.{Determines, ◌&◌}
 use Rattle.texts.specs.Text.{FoundIs}
@@ -35,7 +35,10 @@ pub determined : Determined
 determined =
     record {
       byte = λ _ _ _ _ _ _ _ _ g e f. cc;
-      leaf = λ _ _ _ _ r r' _ _ g e f. found_one _ _ _ _ _ _ r r' e f (cc) (cc) (cc);
-      name_here = λ _ _ _ _ r r' _ _ g e f. found_one _ _ _ _ _ _ r r' e f (cc) (cc) (cc);
-      path_here = λ _ _ _ _ r r' _ _ g e f. found_one _ _ _ _ _ _ r r' e f (cc) (cc) (cc);
+      leaf = λ _ _ a a' r r' _ _ g e f.
+        found_one (leaf a.1.0 a.1.1.0) (leaf a'.1.0 a'.1.1.0) a.0.now a'.0.now a.1.1.1.0 a'.1.1.1.0 r r' e f (cc) (cc) (cc);
+      name_here = λ _ _ a a' r r' _ _ g e f.
+        found_one (field name_of a.1.0) (field name_of a'.1.0) a.0.now a'.0.now a.1.1.0 a'.1.1.0 r r' e f (cc) (cc) (cc);
+      path_here = λ _ _ a a' r r' _ _ g e f.
+        found_one (field path_of a.1.0) (field path_of a'.1.0) a.0.now a'.0.now a.1.1.0 a'.1.1.0 r r' e f (cc) (cc) (cc);
     }

@@ -8,7 +8,7 @@ ghost use Rattle.texts.specs.Text.{PastIs, LongIs, LeafIs, FieldIs};
 use memory::{fits, get16};
 use tokens::{is_decimal, is_name};
 
-#[derive(Drop)]
+#[derive(Clone, Copy)]
 pub enum Past {
     At(usize),
     Bad,

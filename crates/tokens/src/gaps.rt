@@ -13,14 +13,14 @@ const STAR: usize = 42;
 const SLASH: usize = 47;
 
 // Where something ends, if it does.
-#[derive(Drop)]
+#[derive(Clone, Copy)]
 pub enum Ends {
     At(usize),
     Never,
 }
 
 // Where the next token stands, or the comment that is not closed.
-#[derive(Drop)]
+#[derive(Clone, Copy)]
 pub enum Skipped {
     To(usize),
     Open(usize),

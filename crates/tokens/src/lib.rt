@@ -17,7 +17,7 @@ use crate::gaps::{Skipped, skip};
 use crate::scan::{Front, scan_front};
 
 // What a token is: `Word` has its place among the reserved words, `Integer` its 64 bits, `Text` the number of its bytes.
-#[derive(Drop)]
+#[derive(Clone, Copy)]
 pub enum Kind {
     Name,
     Word(usize),
@@ -29,7 +29,7 @@ pub enum Kind {
 }
 
 // A token and the part of the rest that it was read from, or a refusal; places count from the front of the rest.
-#[derive(Drop)]
+#[derive(Clone, Copy)]
 pub enum Token {
     Found { kind: Kind, at: usize, end: usize },
     Refused { number: usize, at: usize },

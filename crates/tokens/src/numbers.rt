@@ -20,7 +20,7 @@ const LARGE_E: usize = 69;
 const SMALL_E: usize = 101;
 
 // An integer's 64 bits, if it is in range.
-#[derive(Drop)]
+#[derive(Clone, Copy)]
 pub enum Amount {
     Fits(u64),
     TooLarge,

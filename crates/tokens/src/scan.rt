@@ -17,7 +17,7 @@ use spelling::{Quoted, byte_at, measure};
 const POINT: usize = 46;
 
 // A token with its length, or the number of a refusal.
-#[derive(Drop)]
+#[derive(Clone, Copy)]
 pub enum Front {
     Read { kind: Kind, len: usize },
     Fault(usize),

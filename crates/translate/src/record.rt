@@ -4,7 +4,7 @@ ghost use Rattle.memory.specs.Memory.{stored};
 ghost use Rattle.translate.specs.Settled.{fields_at, field_bytes};
 
 // A record's six numbers.
-#[derive(Drop)]
+#[derive(Clone, Copy)]
 pub struct Fields {
     pub step: u16,
     pub kind: u16,

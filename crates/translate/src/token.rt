@@ -7,14 +7,14 @@ ghost use Rattle.translate.specs.Puts.{NameNext, NameSpan, is_colon, MoreIs, Put
 use tokens::{Kind, Token};
 
 // From where to where a token stands.
-#[derive(Drop)]
+#[derive(Clone, Copy)]
 pub struct Span {
     pub at: usize,
     pub end: usize,
 }
 
 // Whether a colon follows, and where the source goes on after it.
-#[derive(Drop)]
+#[derive(Clone, Copy)]
 pub enum More {
     At(usize),
     Last,

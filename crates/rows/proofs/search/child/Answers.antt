@@ -2,11 +2,11 @@
 use Prim.Native.Nat.{◌-◌}
 use native.Mathlib.Omega.{arith}
 use mathlib.Core.Path.{refl, sym, ap, ◌∙◌}
-use mathlib.Core.Logic.{⊎_elim}
 use Rattle.rows.specs.View.{label_of}
 use Rattle.rows.specs.Search.{calls}
 use Rattle.rows.proofs.Searches.{seeks_none, seeks_above, seeks_hit, seeks_other, seeks_under}
 use Rattle.rows.proofs.search.child.Goals as goal
+use Rattle.rows.proofs.search.child.Goals.{then-deep-d-2+else-is_named, else-deep-d-2}
 
 pub loop-i-init : goal.loop-i-init
 loop-i-init c = refl
@@ -28,10 +28,12 @@ pub loop-i-preserved : goal.loop-i-preserved
 loop-i-preserved c =
     let a = c.args in
     let l = c.loop-i in
-    l.invariant ∙ ⊎_elim
-    (λ w. seeks_other a.t.now a.u.now a.w.now a.n c.count-k.result a.name.now a.d l.i c.count-k.ensures c.loop-i-test.true (sym c.half-deep.ensures.0 ∙ w.0.taken) (sym w.3.left ∙ w.2.ensures ∙ ap (λ p. calls (label_of a.t.now a.u.now p) a.name.now) w.1.ensures.0))
-    (λ w. seeks_under a.t.now a.u.now a.w.now a.n c.count-k.result a.name.now a.d l.i c.count-k.ensures c.loop-i-test.true (omega (arith, c.half-deep.ensures.0, c.if-deep-d.false, w.left)))
-    c.if-deep-d-2.branch
+    l.invariant ∙ elim c.if-deep-d-2.branch [
+      then-deep-d-2+else-is_named w ↦
+      seeks_other a.t.now a.u.now a.w.now a.n c.count-k.result a.name.now a.d l.i c.count-k.ensures c.loop-i-test.true (sym c.half-deep.ensures.0 ∙ w.if-deep-d-2.true) (sym w.if-is_named.false ∙ w.is_named.ensures ∙ ap (λ p. calls (label_of a.t.now a.u.now p) a.name.now) w.half.ensures.0)
+      | else-deep-d-2 w ↦
+      seeks_under a.t.now a.u.now a.w.now a.n c.count-k.result a.name.now a.d l.i c.count-k.ensures c.loop-i-test.true (omega (arith, c.half-deep.ensures.0, c.if-deep-d.false, w.if-deep-d-2.false))
+    ]
 
 pub returns : goal.returns
 returns c =

@@ -1,9 +1,9 @@
 -- `rows::search::deepest_of` meets its contract: the greater of what is passed and of what is left is the same at each turn. Assumes nothing.
 use Prim.Native.Nat.{◌-◌}
 use native.Mathlib.Omega.{arith}
-use mathlib.Core.Logic.{⊎_elim}
 use Rattle.rows.proofs.Searches.{deepest_none, deepest_one}
 use Rattle.rows.proofs.search.deepest_of.Goals as goal
+use Rattle.rows.proofs.search.deepest_of.Goals.{then-most-deep, else-most-deep}
 
 pub loop-i-init : goal.loop-i-init
 loop-i-init c = λ t u. omega arith
@@ -14,7 +14,7 @@ loop-i-preserved c =
     let l = c.loop-i in
     λ t u. let one = deepest_one t u a.w.now a.n c.count.result a.hi l.i c.count.ensures (omega arith) (omega arith) in
     let inv = l.invariant t u in
-    ⊎_elim (λ w. omega (arith, c.half-deep.ensures.0)) (λ w. omega (arith, c.half-deep.ensures.0)) c.if-most-deep.branch
+    elim c.if-most-deep.branch [ then-most-deep w ↦ omega (arith, c.half-deep.ensures.0) | else-most-deep w ↦ omega (arith, c.half-deep.ensures.0) ]
 
 pub returns : goal.returns
 returns c =

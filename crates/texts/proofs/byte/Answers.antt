@@ -1,0 +1,11 @@
+-- `texts::byte` meets its contract. Assumes nothing.
+use native.Mathlib.Omega.{arith}
+use mathlib.Core.Path.{sym}
+use lib.ListN.{get_or-eq_default}
+use Rattle.texts.proofs.byte.Goals as goal
+
+pub returns-then-s-at : goal.returns-then-s-at
+returns-then-s-at c = sym (get_or-eq_default c.args.s.now 0 (omega arith))
+
+pub returns : goal.returns
+returns c = c.wide.ensures.0
