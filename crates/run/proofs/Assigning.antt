@@ -192,6 +192,7 @@ module _ (t u w s : List ℕ) (n m tb j e k : ℕ) (ns : Path) (p : ℕ) (count 
     goes_on rows tb' h = go (assign p (ns ++ (name ∷ [])) N.value N.so_far) refl h
       where
         go : (a : Answer Store) → assign p (ns ++ (name ∷ [])) N.value N.so_far ≡ a → RanIs p (view t u w') a (Done rows tb') → Mid t u w' s rows m tb' e ns p all
+        go (refused _ _) q x4 = elim x4 [ ]
         go (ok st) q (gone g) = record { left = N.others; so_far = st; held = g; rest = N.rest; goes = N.goes ∙ ap (λ a. a >>= copy p ns N.others) q }
 
     pub stops : (k₀ : ℕ) → RanIs p (view t u w') (assign p (ns ++ (name ∷ [])) N.value N.so_far) (Refused k₀) → RanIs p (view t u w') all (Refused k₀)
@@ -199,4 +200,5 @@ module _ (t u w s : List ℕ) (n m tb j e k : ℕ) (ns : Path) (p : ℕ) (count 
     stops k₀ h = rw N.goes (go (assign p (ns ++ (name ∷ [])) N.value N.so_far) h)
       where
         go : (a : Answer Store) → RanIs p (view t u w') a (Refused k₀) → RanIs p (view t u w') (a >>= copy p ns N.others) (Refused k₀)
+        go (ok _) x'' = elim x'' [ ]
         go (refused x y) stopped = stopped

@@ -172,7 +172,7 @@ lies_skip {list} {t} {i} {p} [] ys L h = lies_at (sym (add-zero i)) (sym (add-ze
 lies_skip {list} {t} {i} {p} (x ∷ xs) ys L h =
     let e : i + 1 + length xs ≡ i + suc (length xs) = omega arith in
     let f : p + length (row_text x) + length (texts xs) ≡ p + length (row_text x ++ texts xs) = omega (arith, length-append (row_text x) (texts xs)) in
-    lies_at e f (lies_skip xs ys (lies_next L h.0) h.1)
+    lies_at e f (lies_skip {i = i + 1} {p = p + length (row_text x)} xs ys (lies_next L h.0) h.1)
 
 -- ---- the rows of a step
 

@@ -96,6 +96,11 @@ ok_right (refused k p) = refl
 module _ (list t u s w w' : List ℕ) (i n tb k own : ℕ) (hl : length list ≤ 20480) (hi : i < 1024) where
   pub prototype_take : (ran : Ran) → step_field 2 list i 0 ≡ 2 → Takes list i t u n tb k own s w w' ran → PrototypeIs list i t u n tb k own s w w' (Placed (step_field 4 list i 16) (i + 1) ran)
   unfolding P⟦◌⟧
+  prototype_take ran e2 R εᴾ q rest st x5 g L h held = elim x5 [ ]
+  prototype_take ran e2 R (named p l (named _ _ _)) q rest st x15 g L h held = elim x15 [ ]
+  prototype_take ran e2 R (named p l (block _ _)) q rest st x15 g L h held = elim x15 [ ]
+  prototype_take ran e2 R (block b (named _ _ _)) q rest st x16 g L h held = elim x16 [ ]
+  prototype_take ran e2 R (block b (block _ _)) q rest st x16 g L h held = elim x16 [ ]
   prototype_take ran e2 R (named p l εᴾ) q rest st reference g L h held =
       let L₁ : Lies list t i q (step_rows (Steps.take p l) ++ rest) = subst (Lies list t i q) (take_rows p l rest) L in
       let F = take_first rest p l g.0 h L₁ in
@@ -109,16 +114,27 @@ module _ (list t u s w w' : List ℕ) (i n tb k own : ℕ) (hl : length list ≤
 
   pub block_refused : (x y : ℕ) → (step_field 2 list i 0 ≡ 2 → ⊥) → StatementsAre list (i + 1) t u n tb own s w w' (Refused x y) → PrototypeIs list i t u n tb k own s w w' (Refused x y)
   unfolding P⟦◌⟧ ◌>>=◌
+  block_refused x y n2 R εᴾ q rest st x6 g L h held = elim x6 [ ]
+  block_refused x y n2 R (named p l (named _ _ _)) q rest st x16 g L h held = elim x16 [ ]
+  block_refused x y n2 R (named p l (block _ _)) q rest st x16 g L h held = elim x16 [ ]
+  block_refused x y n2 R (block b (named _ _ _)) q rest st x17 g L h held = elim x17 [ ]
+  block_refused x y n2 R (block b (block _ _)) q rest st x17 g L h held = elim x17 [ ]
   block_refused x y n2 R (named p l εᴾ) q rest st reference g L h held = absurd (not_take n2 p l q rest g.0 h L)
   block_refused x y n2 R (block b εᴾ) q rest st braces g L h held =
       let N = enter_next _ (subst (Lies list t i q) (block_rows b rest) L) in
       go (B⟦ b ⟧ (scope_in t u s own) st) (R b N.0 (step_rows Steps.leave ++ rest) st g.0 N.1 (leave_stops rest) h held)
     where
       go : (a : Answer Store) → WentIs (view t u w') (i + 1 + length (all_rows (steps b))) a (Refused x y) → WentIs (view t u w') (i + length (all_rows (prototype_steps (block b εᴾ)))) (a >>= λ z. ok z) (Refused x y)
+      go (ok _) x9 = elim x9 [ ]
       go (refused x y) off = off
 
   pub block_on : (j rows tb' next : ℕ) → (step_field 2 list i 0 ≡ 2 → ⊥) → StatementsAre list (i + 1) t u n tb own s w w' (Next j rows tb') → (j < 1024 → next ≡ j + 1) → PrototypeIs list i t u n tb k own s w w' (Next next rows tb')
   unfolding P⟦◌⟧ ◌>>=◌
+  block_on j rows tb' next n2 R en εᴾ q rest st x5 g L h held = elim x5 [ ]
+  block_on j rows tb' next n2 R en (named p l (named _ _ _)) q rest st x15 g L h held = elim x15 [ ]
+  block_on j rows tb' next n2 R en (named p l (block _ _)) q rest st x15 g L h held = elim x15 [ ]
+  block_on j rows tb' next n2 R en (block b (named _ _ _)) q rest st x16 g L h held = elim x16 [ ]
+  block_on j rows tb' next n2 R en (block b (block _ _)) q rest st x16 g L h held = elim x16 [ ]
   block_on j rows tb' next n2 R en (named p l εᴾ) q rest st reference g L h held = absurd (not_take n2 p l q rest g.0 h L)
   block_on j rows tb' next n2 R en (block b εᴾ) q rest st braces g L h held =
       let N = enter_next _ (subst (Lies list t i q) (block_rows b rest) L) in
@@ -252,6 +268,7 @@ module _ (list t u w : List ℕ) (i n tb : ℕ) (ns : Path) (rest : List Row) (a
     statement_stops x y W = rw N.goes (go (A⟦ N.one ⟧ ns N.so_far) W)
       where
         go : (a : Answer Store) → WentIs (view t u w') (i + length (all_rows (statement_steps N.one))) a (Refused x y) → WentIs (view t u w') next (a >>= B⟦ N.others ⟧ ns) (Refused x y)
+        go (ok _) x3 = elim x3 [ ]
         go (refused x y) off = off
 
 -- ---- prototype after prototype
@@ -398,4 +415,5 @@ module _ (list t u w : List ℕ) (i n tb : ℕ) (ns own : Path) (rest : List Row
     prototype_stops x y W = rw N.goes (go (P⟦ N.one ⟧ ns own N.so_far) W)
       where
         go : (a : Answer Store) → WentIs (view t u w') (i + length (all_rows (prototype_steps N.one))) a (Refused x y) → WentIs (view t u w') next (a >>= P⟦ N.others ⟧ ns own) (Refused x y)
+        go (ok _) x3 = elim x3 [ ]
         go (refused x y) off = off

@@ -118,6 +118,7 @@ module _ (list t u s w : List ℕ) (i n tb k own : ℕ) (hl : length list ≤ 20
       go (Bounds.assign p (front ++ (last ∷ [])) (component ∅) st) (M st front last p held T) F.place_is
     where
       go : (a : Answer Store) → RanIs p (view t u w') a (Not x) → step_field 4 list i 16 ≡ p → WentIs (view t u w') (i + length (all_rows (value_steps (extends p ps) l))) (a >>= λ z. P⟦ ps ⟧ (scope_in t u s k) (front ++ (last ∷ [])) z) (Refused x (step_field 4 list i 16))
+      go (ok _) x4 e = elim x4 [ ]
       go (refused y z) stopped e = rw e off
 
   pub component_on : (s₁ w₁ w' : List ℕ) (rows tb₁ : ℕ) (r : Went) → Makes t u n tb own s w w₁ (Done rows tb₁) → drop 32768 s₁ ≡ drop 32768 s → PrototypesAre list (i + 1) t u rows tb₁ k own s₁ w₁ w' r → ComponentIs list i t u n tb k own s w w' r
@@ -138,6 +139,7 @@ module _ (list t u s w : List ℕ) (i n tb k own : ℕ) (hl : length list ≤ 20
       outer = ap (λ y. names t u y k) ed
 
       go : (a : Answer Store) → RanIs p (view t u w₁) a (Done rows tb₁) → WentIs (view t u w') (i + length (all_rows (value_steps (extends p ps) l))) (a >>= λ z. P⟦ ps ⟧ (scope_in t u s k) (front ++ (last ∷ [])) z) r
+      go (refused _ _) x3 = elim x3 [ ]
       go (ok st₁) (gone G) =
           subst (λ y. WentIs (view t u w') (i + length (all_rows (value_steps (extends p ps) l))) (P⟦ ps ⟧ (scope_in t u s k) y st₁) r) own_names
           (subst (λ y. WentIs (view t u w') (i + length (all_rows (value_steps (extends p ps) l))) (P⟦ ps ⟧ y (scope_in t u s₁ own) st₁) r) outer

@@ -1,0 +1,5 @@
+use Prim.Native.Nat.{◌-◌}
+use Rattle.run.proofs.find.+resolve.Given as goal
+
+abbrev pub decreases-resolve : goal.decreases-resolve
+decreases-resolve l = l.k

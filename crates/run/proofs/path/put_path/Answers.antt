@@ -1,0 +1,53 @@
+-- `run::path::put_path`: the places of the names passed are stored. Assumes nothing.
+use Prim.Native.Nat.{◌+◌, ◌-◌}
+use native.Mathlib.Omega.{arith}
+use mathlib.Core.Path.{refl, ◌∙◌}
+use Rattle.run.proofs.Placing.{after_none, after_more, put_none, put_turn, put_end}
+use Rattle.run.proofs.path.put_path.Goals as goal
+
+pub overflow_add-q : goal.overflow_add-q
+overflow_add-q c = omega arith
+
+pub loop-i-init : goal.loop-i-init
+loop-i-init c = let a = c.args in (omega arith, omega arith, refl, after_none a.t.now (a.p + 1), put_none a.t.now a.s.now (a.p + 1) a.at)
+
+pub overflow_mul-i : goal.overflow_mul-i
+overflow_mul-i c = omega (arith, c.count-n.ensures.1)
+
+pub overflow_add-at : goal.overflow_add-at
+overflow_add-at c = omega (arith, c.count-n.ensures.1)
+
+pub overflow_cast-q : goal.overflow_cast-q
+overflow_cast-q c = omega (arith, c.count-n.ensures.1)
+
+pub overflow_add-q-in-loop-i : goal.overflow_add-q-in-loop-i
+overflow_add-q-in-loop-i c = omega (arith, c.count-n.ensures.1)
+
+pub overflow_add-q-in-loop-i-2 : goal.overflow_add-q-in-loop-i-2
+overflow_add-q-in-loop-i-2 c = omega (arith, c.count-n.ensures.1, c.byte.ensures.1)
+
+pub overflow_add-i : goal.overflow_add-i
+overflow_add-i c = omega (arith, c.count-n.ensures.1)
+
+pub loop-i-smaller : goal.loop-i-smaller
+loop-i-smaller c = omega arith
+
+pub loop-i-preserved : goal.loop-i-preserved
+loop-i-preserved c =
+    let a = c.args in
+    let l = c.loop-i in (
+      omega arith,
+      omega (arith, c.byte.ensures.1),
+      c.put16.auto.s ∙ l.invariant.2,
+      after_more a.t.now (a.p + 1) l.i l.q c.byte.result l.invariant.3 c.byte.ensures.0,
+      put_turn a.t.now a.s.now l.s _ (a.p + 1) a.at l.i l.q (omega (arith, c.count-n.ensures.1, c.requires.1)) l.invariant.3 l.invariant.4 c.put16.ensures,
+    )
+
+pub shape_of-s : goal.shape_of-s
+shape_of-s c = c.loop-i.invariant.2
+
+pub returns : goal.returns
+returns c =
+    let a = c.args in
+    let l = c.loop-i in
+    (c.count-n.ensures.0, put_end a.t.now a.s.now l.s (a.p + 1) a.at l.i c.count-n.result l.invariant.0 (λ h. omega arith) l.invariant.4)
