@@ -21,7 +21,7 @@ fn refusal(number: usize, place: usize) -> u64
 
 #[unsafe(no_mangle)]
 pub extern "C" fn sf_translate(src: &[u8], out: &mut [u8], work: &mut [u8]) -> u64
-    ensures* { λ r. ⌜ ◌≡◌ {A = Called} (record { result = r; output = out.new; works = work.new ∷ [] }) (in_c (translates src.now out.old work.old)) ⌝ }
+    ensures { ◌≡◌ {A = Called} (record { result = result; output = out.new; works = work.new ∷ [] }) (in_c (translates src.now out.old work.old)) }
 {
     match translate(src, out, work) {
         translate::Answer::Done(n) => n as u64,
@@ -37,7 +37,7 @@ pub extern "C" fn sf_run<'a>(
     work1: &mut [u8],
     work2: &mut [u8],
 ) -> u64
-    ensures* { λ r. ⌜ ◌≡◌ {A = Called} (record { result = r; output = out.new; works = work1.new ∷ work2.new ∷ [] }) (in_c (runs steps.now table.now out.old work1.old work2.old)) ⌝ }
+    ensures { ◌≡◌ {A = Called} (record { result = result; output = out.new; works = work1.new ∷ work2.new ∷ [] }) (in_c (runs steps.now table.now out.old work1.old work2.old)) }
 {
     match run(steps, table, out, work1, work2) {
         run::Answer::Done(n) => n as u64,
@@ -47,7 +47,7 @@ pub extern "C" fn sf_run<'a>(
 
 #[unsafe(no_mangle)]
 pub extern "C" fn sf_main(table: &[u8], out: &mut [u8]) -> u64
-    ensures* { λ r. ⌜ ◌≡◌ {A = Called} (record { result = r; output = out.new; works = [] }) (in_c (takes_main table.now out.old)) ⌝ }
+    ensures { ◌≡◌ {A = Called} (record { result = result; output = out.new; works = [] }) (in_c (takes_main table.now out.old)) }
 {
     match main(table, out) {
         main_table::Answer::Done(n) => n as u64,
@@ -63,7 +63,7 @@ pub extern "C" fn sf_resolve(
     work2: &mut [u8],
     work3: &mut [u8],
 ) -> u64
-    ensures* { λ r. ⌜ ◌≡◌ {A = Called} (record { result = r; output = out.new; works = work1.new ∷ work2.new ∷ work3.new ∷ [] }) (in_c (resolves src.now out.old work1.old work2.old work3.old)) ⌝ }
+    ensures { ◌≡◌ {A = Called} (record { result = result; output = out.new; works = work1.new ∷ work2.new ∷ work3.new ∷ [] }) (in_c (resolves src.now out.old work1.old work2.old work3.old)) }
 {
     match resolve(src, out, work1, work2, work3) {
         run::Answer::Done(n) => n as u64,
