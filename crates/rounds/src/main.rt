@@ -2,7 +2,9 @@
 // One time is the difference of two counts. Standard input holds five numbers of 32 bits, the lowest byte first, which are the times of each
 // and the description's length; then the description. Each time is a line.
 #![tactic(auto)]
-use libc::{STDIN_FILENO, STDOUT_FILENO};
+const STDIN_FILENO: i32 = 0;
+
+const STDOUT_FILENO: i32 = 1;
 
 const EMPTY: [u8; 24] = *b"\x02\0\0\0\x18\0\0\0\0\0\0\0\x18\0\0\0\0\0\0\0\x18\0\0\0";
 

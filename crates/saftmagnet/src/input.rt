@@ -1,5 +1,10 @@
-// Bytes in: a descriptor read to its end or to the end of a buffer, and a file by its name.
+// Bytes in: a reader read to its end or to the end of a buffer, and a file by its name.
 use memory::part;
+use std::env::FillError;
+use std::fs;
+use std::io::{Error, ErrorKind, Read as Source};
+use std::rt::Env;
+use std::str::from_utf8;
 
 #[derive(Clone, Copy)]
 pub enum Read {
@@ -7,73 +12,75 @@ pub enum Read {
     Fault,
 }
 
-// What a read that gave nothing means: the input has ended, or the read failed.
-fn ended(got: isize, done: usize) -> Read {
-    if got < 0 {
-        return Read::Fault;
-    }
-    Read::Bytes(done)
-}
+const NAME_TOO_LONG: i32 = 36;
 
-// Reads until buf is full or nothing more comes. Unlike `io::read_full` it tells a failed read from the end of the input.
-fn fill(fd: i32, buf: &mut [u8]) -> Read {
+// Reads until buf is full or nothing more comes.
+fn fill<S: Source>(source: &mut S, buf: &mut [u8]) -> Result<usize, Error> {
     let mut done: usize = 0;
     while done < buf.len() {
-        let got = libc::read(fd, &mut buf[done..]);
-        let n = io::count(got, &buf[done..]);
+        let n = source.read(&mut buf[done..])?;
         if n == 0 {
-            return ended(got, done);
+            break;
         }
         done += n;
     }
-    Read::Bytes(done)
+    Ok(done)
 }
 
-// Says what could not be read, with the system's reason for it.
-pub(crate) fn complain(what: &[u8]) {
-    io::write_all(libc::STDERR_FILENO, b"saftmagnet: ");
-    os::fail(what);
+// Says what could not be read or written, with the system's reason for it, without the number that the library puts behind.
+pub(crate) fn complain(rt: &HostRuntime, what: &str, error: Error) {
+    match format!(in rt.alloc(); "{error}") {
+        Ok(text) => {
+            let (reason, _) = text
+                .as_str()
+                .split_once(" (os error")
+                .unwrap_or((text.as_str(), ""));
+            let _ = eprintln!(rt; "saftmagnet: {what}: {reason}");
+        }
+        Err(_) => {
+            let _ = eprintln!(rt; "saftmagnet: {what}");
+        }
+    }
 }
 
-pub(crate) fn read_input(buf: &mut [u8]) -> Read {
-    let fd = libc::STDIN_FILENO;
-    match fill(fd, buf) {
-        Read::Bytes(n) => Read::Bytes(n),
-        Read::Fault => {
-            complain(b"standard input");
+fn read_from<S: Source>(rt: &HostRuntime, source: &mut S, what: &str, buf: &mut [u8]) -> Read {
+    match fill(source, buf) {
+        Ok(n) => Read::Bytes(n),
+        Err(error) => {
+            complain(rt, what, error);
             Read::Fault
         }
     }
 }
 
-// The reason is told before the descriptor is closed, since closing may set another.
-fn read_opened(fd: i32, path: &[u8], buf: &mut [u8]) -> Read {
-    if fd < 0 {
-        complain(path);
-        return Read::Fault;
-    }
-    let got = fill(fd, buf);
-    match got {
-        Read::Bytes(n) => {
-            libc::close(fd);
-            Read::Bytes(n)
-        }
-        Read::Fault => {
-            complain(path);
-            libc::close(fd);
+pub(crate) fn read_input(rt: &HostRuntime, buf: &mut [u8]) -> Read {
+    read_from(rt, &mut rt.stdin(), "standard input", buf)
+}
+
+fn read_named(rt: &HostRuntime, name: &str, buf: &mut [u8]) -> Read {
+    match fs::open(rt, name) {
+        Ok(mut file) => read_from(rt, &mut file, name, buf),
+        Err(error) => {
+            complain(rt, name, error);
             Read::Fault
         }
     }
+}
+
+fn no_name(rt: &HostRuntime, error: Error) -> Read {
+    complain(rt, "the name of a file", error);
+    Read::Fault
 }
 
 // The file that the program's argument i names.
-pub(crate) fn read_file(i: usize, buf: &mut [u8]) -> Read {
-    let mut path = io::buffer();
-    let n = os::arg(i, &mut path);
-    if os::errno() != 0 {
-        complain(b"the name of a file");
-        return Read::Fault;
+pub(crate) fn read_file(rt: &HostRuntime, i: usize, buf: &mut [u8]) -> Read {
+    let mut path = [0u8; 4096];
+    match rt.arg(i, &mut path) {
+        Ok(n) => match from_utf8(part(&path, 0, n)) {
+            Ok(name) => read_named(rt, name, buf),
+            Err(_) => no_name(rt, Error::new(ErrorKind::InvalidInput, "it is not UTF-8")),
+        },
+        Err(FillError::NotPresent) => no_name(rt, Error::from(ErrorKind::NotFound)),
+        Err(FillError::TooLong) => no_name(rt, Error::from_raw_os_error(NAME_TOO_LONG)),
     }
-    let name = part(&path, 0, n);
-    read_opened(os::open_read(name), name, buf)
 }

@@ -13,6 +13,7 @@
 // 640 KiB of stack are enough, 64 of them for the words and the environment that the program is started with.
 // This is measured and not proved: tools/try_commands reads the number here and runs the deepest inputs in so much.
 #![tactic(auto)]
+
 mod input;
 mod output;
 
@@ -22,84 +23,86 @@ ghost use Rattle.paper.specs.Bytes.{same};
 use input::{Read, read_file, read_input};
 use memory::part;
 use output::{put, refused};
+use std::env::FillError;
+use std::rt::Env;
 
-fn resolve_source(source: &[u8]) {
+fn resolve_source(rt: &HostRuntime, source: &[u8]) {
     let mut out = [0u8; 32792];
     let mut work1 = [0u8; 65536];
     let mut work2 = [0u8; 65536];
     let mut work3 = [0u8; 65536];
     match resolve::resolve(source, &mut out, &mut work1, &mut work2, &mut work3) {
-        resolve::Answer::Done(n) => put(part(&out, 0, n)),
-        resolve::Answer::Refused(number, place) => refused(number, place),
+        resolve::Answer::Done(n) => put(rt, part(&out, 0, n)),
+        resolve::Answer::Refused(number, place) => refused(rt, number, place),
     }
 }
 
-fn translate_source(source: &[u8]) {
+fn translate_source(rt: &HostRuntime, source: &[u8]) {
     let mut out = [0u8; 53272];
     let mut work = [0u8; 65536];
     match translate::translate(source, &mut out, &mut work) {
-        translate::Answer::Done(n) => put(part(&out, 0, n)),
-        translate::Answer::Refused(number, place) => refused(number, place),
+        translate::Answer::Done(n) => put(rt, part(&out, 0, n)),
+        translate::Answer::Refused(number, place) => refused(rt, number, place),
     }
 }
 
-fn main_of(table: &[u8]) {
+fn main_of(rt: &HostRuntime, table: &[u8]) {
     let mut out = [0u8; 32792];
     match main_table::main(table, &mut out) {
-        main_table::Answer::Done(n) => put(part(&out, 0, n)),
-        main_table::Answer::Refused(number, place) => refused(number, place),
+        main_table::Answer::Done(n) => put(rt, part(&out, 0, n)),
+        main_table::Answer::Refused(number, place) => refused(rt, number, place),
     }
 }
 
-fn run_over<'a>(list: &'a [u8], table: &'a [u8]) {
+fn run_over<'a>(rt: &HostRuntime, list: &'a [u8], table: &'a [u8]) {
     let mut out = [0u8; 32792];
     let mut work1 = [0u8; 65536];
     let mut work2 = [0u8; 65536];
     match run::run(list, table, &mut out, &mut work1, &mut work2) {
-        run::Answer::Done(n) => put(part(&out, 0, n)),
-        run::Answer::Refused(number, place) => refused(number, place),
+        run::Answer::Done(n) => put(rt, part(&out, 0, n)),
+        run::Answer::Refused(number, place) => refused(rt, number, place),
     }
 }
 
-fn resolve_input() {
+fn resolve_input(rt: &HostRuntime) {
     let mut source = [0u8; 32769];
-    let got = read_input(&mut source);
+    let got = read_input(rt, &mut source);
     let Read::Bytes(n) = got else {
         return;
     };
-    resolve_source(part(&source, 0, n));
+    resolve_source(rt, part(&source, 0, n));
 }
 
-fn translate_input() {
+fn translate_input(rt: &HostRuntime) {
     let mut source = [0u8; 32769];
-    let got = read_input(&mut source);
+    let got = read_input(rt, &mut source);
     let Read::Bytes(n) = got else {
         return;
     };
-    translate_source(part(&source, 0, n));
+    translate_source(rt, part(&source, 0, n));
 }
 
-fn main_input() {
+fn main_input(rt: &HostRuntime) {
     let mut table = [0u8; 32793];
-    let got = read_input(&mut table);
+    let got = read_input(rt, &mut table);
     let Read::Bytes(n) = got else {
         return;
     };
-    main_of(part(&table, 0, n));
+    main_of(rt, part(&table, 0, n));
 }
 
-fn run_files() {
+fn run_files(rt: &HostRuntime) {
     let mut list = [0u8; 53273];
     let mut table = [0u8; 32793];
-    let got = read_file(2, &mut list);
+    let got = read_file(rt, 2, &mut list);
     let Read::Bytes(n) = got else {
         return;
     };
-    let got = read_file(3, &mut table);
+    let got = read_file(rt, 3, &mut table);
     let Read::Bytes(m) = got else {
         return;
     };
-    run_over(part(&list, 0, n), part(&table, 0, m));
+    run_over(rt, part(&list, 0, n), part(&table, 0, m));
 }
 
 fn same_bytes(a: &[u8], b: &[u8]) -> bool
@@ -118,53 +121,56 @@ fn same_bytes(a: &[u8], b: &[u8]) -> bool
     true
 }
 
-fn usage() {
-    io::write_all(
-        libc::STDERR_FILENO,
-        b"usage: saftmagnet [resolve] < description > table\n",
-    );
-    io::write_all(
-        libc::STDERR_FILENO,
-        b"       saftmagnet translate < description > list\n",
-    );
-    io::write_all(
-        libc::STDERR_FILENO,
-        b"       saftmagnet main < table > table\n",
-    );
-    io::write_all(
-        libc::STDERR_FILENO,
-        b"       saftmagnet run LIST TABLE > table\n",
-    );
+fn usage(rt: &HostRuntime) {
+    let _ = eprintln!(rt; "usage: saftmagnet [resolve] < description > table");
+    let _ = eprintln!(rt; "       saftmagnet translate < description > list");
+    let _ = eprintln!(rt; "       saftmagnet main < table > table");
+    let _ = eprintln!(rt; "       saftmagnet run LIST TABLE > table");
 }
 
 // The one word of a command that reads standard input.
-fn one_word(word: &[u8]) {
+fn one_word(rt: &HostRuntime, word: &[u8]) {
     if same_bytes(word, b"resolve") {
-        resolve_input();
+        resolve_input(rt);
     } else if same_bytes(word, b"translate") {
-        translate_input();
+        translate_input(rt);
     } else if same_bytes(word, b"main") {
-        main_input();
+        main_input(rt);
     } else {
-        usage();
+        usage(rt);
     }
 }
 
 // How many words there are, the program's own name among them.
-fn command(words: usize, first: &[u8]) {
+fn command(rt: &HostRuntime, words: usize, first: &[u8]) {
     if words < 2 {
-        resolve_input();
+        resolve_input(rt);
     } else if words == 2 {
-        one_word(first);
+        one_word(rt, first);
     } else if words == 4 && same_bytes(first, b"run") {
-        run_files();
+        run_files(rt);
     } else {
-        usage();
+        usage(rt);
     }
 }
 
-fn main() {
+// How many words there are, the program's own name among them; of more than four, five.
+fn word_count(rt: &HostRuntime) -> usize {
+    let mut word = [0u8; 1];
+    let mut n: usize = 0;
+    while n < 5 {
+        if let Err(FillError::NotPresent) = rt.arg(n, &mut word) {
+            break;
+        }
+        n += 1;
+    }
+    n
+}
+
+fn main(rt: HostRuntime) {
     let mut first = [0u8; 16];
-    let n = os::arg(1, &mut first);
-    command(os::arg_count(), &first[..n]);
+    match rt.arg(1, &mut first) {
+        Ok(n) => command(&rt, word_count(&rt), &first[..n]),
+        Err(_) => command(&rt, word_count(&rt), b""),
+    }
 }

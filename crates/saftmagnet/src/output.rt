@@ -1,13 +1,13 @@
-// Bytes out, once the whole answer is there: by one call of `io::write_all`. Where the system takes only a part of them and then
+// Bytes out, once the whole answer is there: by one call of `write_all`. Where the system takes only a part of them and then
 // fails, as on a full disk, that part stays written, and standard error says that the rest is missing.
 ghost use Rattle.std.specs.Prelude.{◌≡◌, ◌+◌, ◌≤◌, length};
 ghost use Rattle.saftmagnet.specs.Line.{Added, decimal, refusal};
 
-use libc::STDOUT_FILENO;
+use std::io::Write;
 
-pub(crate) fn put(bytes: &[u8]) {
-    if !io::write_all(STDOUT_FILENO, bytes) {
-        crate::input::complain(b"standard output");
+pub(crate) fn put(rt: &HostRuntime, bytes: &[u8]) {
+    if let Err(error) = rt.stdout().write_all(bytes) {
+        crate::input::complain(rt, "standard output", error);
     }
 }
 
@@ -54,7 +54,7 @@ fn refusal_in<'a>(line: &'a mut [u8], number: usize, place: usize) -> &'a [u8]
     memory::part(line, 0, end)
 }
 
-pub(crate) fn refused(number: usize, place: usize) {
+pub(crate) fn refused(rt: &HostRuntime, number: usize, place: usize) {
     let mut line = [0u8; 64];
-    put(refusal_in(&mut line, number, place));
+    put(rt, refusal_in(&mut line, number, place));
 }

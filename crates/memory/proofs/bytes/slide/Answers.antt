@@ -17,7 +17,6 @@ returns-then-not-fits c =
 
 pub returns-then-not-fits-2 : goal.returns-then-not-fits-2
 returns-then-not-fits-2 c =
-    
     let a = c.args in
     let h = lies_in (goal.at.returns-then-not-fits-2 c).Else-not-fits in
     let o : length a.s.now < a.to + a.n = fits_no _ _ _ c.fits-2.ensures c.if-not-fits-2.true-raw in
@@ -28,7 +27,6 @@ move_down-requires c = (c.if-to-from.true, lies_in (goal.at.move_down-requires c
 
 pub returns-then-to-from : goal.returns-then-to-from
 returns-then-to-from c =
-    
     let a = c.args in
     c.move_down.ensures ∙ sym (slid_in a.s.now a.from a.to a.n (lies_in (goal.at.returns-then-to-from c).Else-not-fits))
 
@@ -37,6 +35,5 @@ move_up-requires c = (omega arith, fits_yes _ _ _ c.fits-2.ensures c.if-not-fits
 
 pub returns : goal.returns
 returns c =
-    
     let a = c.args in
     c.move_up.ensures ∙ sym (slid_in a.s.now a.from a.to a.n (lies_in (goal.at.returns c).Else-not-fits))
