@@ -36,7 +36,7 @@ fn at(counts: &[u64; 128], operation: usize, k: usize) -> u64 {
 fn add(counts: &mut [u64; 128], operation: usize, k: usize) {
     let i = place(operation, k);
     let n = counts[i];
-    counts[i] = std::num::wrapping_add_u64(n, 1);
+    counts[i] = n.wrapping_add(1);
 }
 
 // A number that is none of the paper's counts with 29.

@@ -1,5 +1,5 @@
 // What stands before a case's bytes: twelve numbers of 32 bits, the lowest byte first.
-use libc::STDIN_FILENO;
+const STDIN_FILENO: i32 = 0;
 
 #[derive(Clone, Copy)]
 pub struct Head {
@@ -68,7 +68,7 @@ pub(crate) fn read_body(body: &mut [u8], n: usize) -> bool {
 }
 
 fn plus(a: usize, b: usize) -> usize {
-    std::num::wrapping_add_usize(a, b)
+    a.wrapping_add(b)
 }
 
 fn length(h: Head) -> usize {
