@@ -3,13 +3,13 @@
 function bytes(word) { return word == "-" ? "[]" : "hex \"" word "\"" }
 function header(file) {
     print "-- Cases " n + 1 " on: the second implementation's answers as equations about the definitions. Assumes nothing." > file
-    print "use mathlib.Core.Path.{_≡_, refl}" > file
+    print "use mathlib.Core.Path.{◌≡◌, refl}" > file
     print "use mathlib.Core.Bool.{true}" > file
     print "use mathlib.Core.List.{[]}" > file
-    print "use Rattle·paper.specs.Answer.{ok, refused}" > file
-    print "use Rattle·paper.specs.Operations.{translate-op, run-op, main-op, resolve-op}" > file
-    print "use Rattle·paper.proofs.Open.{all}" > file
-    print "use Rattle·paper.proofs.Checked.Alike.{hex, alike}" > file
+    print "use Rattle.paper.specs.Answer.{ok, refused}" > file
+    print "use Rattle.paper.specs.Operations.{translate_op, run_op, main_op, resolve_op}" > file
+    print "use Rattle.paper.proofs.Open.{all}" > file
+    print "use Rattle.paper.proofs.Checked.Alike.{hex, alike}" > file
 }
 {
     if (n % 50 == 0) {
@@ -19,12 +19,12 @@ function header(file) {
         header(file)
     }
     n++
-    if ($1 == "run") { call = "run-op (" bytes($2) ") (" bytes($3) ") 32792 65536 65536"; at = 4 }
+    if ($1 == "run") { call = "run_op (" bytes($2) ") (" bytes($3) ") 32792 65536 65536"; at = 4 }
     else {
         at = 3
-        if ($1 == "translate") call = "translate-op (" bytes($2) ") 53272 65536"
-        else if ($1 == "main") call = "main-op (" bytes($2) ") 32792"
-        else if ($1 == "resolve") call = "resolve-op (" bytes($2) ") 32792 65536 65536 65536"
+        if ($1 == "translate") call = "translate_op (" bytes($2) ") 53272 65536"
+        else if ($1 == "main") call = "main_op (" bytes($2) ") 32792"
+        else if ($1 == "resolve") call = "resolve_op (" bytes($2) ") 32792 65536 65536 65536"
         else { print "bridge: line " NR " is no case: " $1 > "/dev/stderr"; exit 1 }
     }
     if ($at != "=") { print "bridge: line " NR " has no answer" > "/dev/stderr"; exit 1 }

@@ -1,5 +1,6 @@
 // The four operations as C functions: each slice is a pointer and a length, the answer one number.
 #![tactic(auto)]
+
 ghost use Rattle.std.specs.Prelude.{◌≡◌, [], ◌∷◌, ◌≤◌, ◌+◌, ◌*◌};
 ghost use Rattle.paper.specs.Operations.{translates, runs, takes_main, resolves};
 ghost use Rattle.capi.specs.Called.{Called, in_c};

@@ -2,6 +2,7 @@
 // its head, its name, its inputs and the output that is expected. A case with a name gets a line, and so does one that differs; at the end
 // each operation gets a line.
 #![tactic(auto)]
+
 mod answer;
 mod count;
 mod fence;

@@ -1,6 +1,7 @@
 // Whether a case is the same, and its line.
 use crate::answer::Answer;
 use crate::head::Head;
+
 const STDOUT_FILENO: i32 = 1;
 
 // The answer, and whether each array holds what it should.

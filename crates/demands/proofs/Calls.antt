@@ -5,7 +5,7 @@ use mathlib.Core.Path.{◌≡◌, refl, sym, ap, subst}
 use mathlib.Core.List.{List, [], ◌∷◌, map}
 use mathlib.Core.Logic.{◌↔◌, ⊎_elim}
 use lib.ListN.{length}
-use Rattle.paper.specs.Answer.{Answer, ok, refused}
+use Rattle.paper.specs.Answer.{Answer, refused}
 use Rattle.paper.specs.Limits.{least_list, least_table}
 use Rattle.paper.specs.Lent.{Outcome, told, written, cleared, Enough, Lent, Call}
 use Rattle.paper.specs.Allowed.{Translates, Runs, TakesMain, Resolves}

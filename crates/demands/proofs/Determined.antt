@@ -2,7 +2,7 @@
 -- answer as the code gives it, and the bytes of every slice that is lent. Assumes nothing.
 use Prim.Native.Nat.{ℕ}
 use mathlib.Core.Path.{◌≡◌, refl, sym, ap, subst, ◌∙◌}
-use mathlib.Core.List.{List, [], ◌∷◌, map}
+use mathlib.Core.List.{List, [], map}
 use Rattle.paper.specs.Answer.{Answer}
 use Rattle.paper.specs.Limits.{least_list, least_table}
 use Rattle.paper.specs.Lent.{Outcome, told, written, cleared, Enough, Lent, Call}
@@ -13,7 +13,7 @@ use Rattle.translate.proofs.Determined as Translate
 use Rattle.run.proofs.Determined as Run
 use Rattle.main_table.proofs.Determined as Main
 use Rattle.resolve.proofs.Determined as Resolve
-use Rattle.demands.specs.Slices.{FourLong, Sent, Third}
+use Rattle.demands.specs.Slices.{Third}
 use Rattle.demands.proofs.operations.translates.Reads as Translates-reads
 use Rattle.demands.proofs.operations.runs.Reads as Runs-reads
 use Rattle.demands.proofs.operations.takes_main.Reads as Main-reads

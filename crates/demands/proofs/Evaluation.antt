@@ -7,7 +7,7 @@ use mathlib.Core.Logic.{⊎_elim}
 use lib.ListN.{length, take, drop, length-append}
 use lib.Seq.{take_at}
 use Rattle.paper.specs.Answer.{Answer, ok, refused}
-use Rattle.paper.specs.Limits.{least_list, least_table, least_work}
+use Rattle.paper.specs.Limits.{least_list, least_table}
 use Rattle.paper.specs.Syntax.{Block}
 use Rattle.paper.specs.Lent.{Outcome, told, written, wiped, cleared, Enough, Lent, Call}
 use Rattle.paper.specs.Steps.{steps}

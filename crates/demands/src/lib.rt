@@ -1,5 +1,6 @@
 // What is asked of the operations, as contracts of functions that call them: a weaker contract below is refused here.
 #![tactic(auto)]
+
 mod evaluating;
 mod met;
 mod operations;

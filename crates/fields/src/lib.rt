@@ -1,5 +1,6 @@
 // The numbers of the record at a byte of the records; one that lies outside is read as 0.
 #![tactic(auto)]
+
 ghost use Rattle.std.specs.Prelude.{◌≡◌, ◌+◌, ◌≤◌, ◌<◌};
 ghost use Rattle.memory.specs.Memory.{word_at};
 

@@ -1,20 +1,18 @@
 -- A record that lies inside: what the code reads of it is the paper's record. Assumes nothing.
 use Prim.Native.Nat.{ℕ, ◌+◌, ◌≤◌}
 use native.Mathlib.Omega.{arith}
-use mathlib.Core.Path.{◌≡◌, refl, sym, ◌∙◌, ap}
-use mathlib.Core.Bool.{Bool, true, false, ◌&&◌}
+use mathlib.Core.Path.{◌≡◌}
+use mathlib.Core.Bool.{false}
 use mathlib.Core.List.{List}
 use lib.ListN.{length}
 use lib.Dec.{eqb}
 use borrow.Author.Tests.{eq-eqb, ne_eqb}
 use Rattle.paper.specs.TableDecoder.{in_table}
 use Rattle.paper.specs.StepDecoder.{in_steps}
-use Rattle.paper.specs.DecodeAt.{word, raw_at}
+use Rattle.paper.specs.DecodeAt.{raw_at}
 use Rattle.memory.specs.Memory.{word_at}
 use Rattle.memory.proofs.Laws.{word_in}
-use Rattle.forms.specs.declared.form.Form.{Form}
-use Rattle.forms.specs.declared.form.Form.TheVariants.{Table, Steps}
-use Rattle.forms.specs.Form.{form_of, size_of, fields, kind_of, fits_in}
+use Rattle.forms.specs.Form.{fields}
 
 pub fields_in : (w : ℕ) (recs : List ℕ) (i : ℕ) → i + (16 + w) ≤ length recs → fields w recs i ≡ raw_at w recs i
 unfolding fields raw_at

@@ -1,5 +1,5 @@
 -- The header: the paper's reader, one law for each way through the code. Assumes nothing.
-use Prim.Native.Nat.{ℕ, ◌+◌, ◌*◌, ◌-◌, ◌≤◌, ◌<◌}
+use Prim.Native.Nat.{ℕ, ◌+◌, ◌*◌, ◌≤◌, ◌<◌}
 use native.Mathlib.Omega.{arith}
 use native.Mathlib.Nat.{mul-le-mul_right}
 use mathlib.Core.Path.{◌≡◌, refl, sym, ◌∙◌, ap}
@@ -17,7 +17,7 @@ use Rattle.theorems.proofs.Decoded.Parts.{length_little}
 use Rattle.theorems.proofs.Laws.Found.{found_some}
 use Rattle.theorems.proofs.Laws.DecodeAt.{Bytes, number_at}
 use Rattle.paper.specs.DecodeAt.{cursor, headed}
-use Rattle.memory.specs.Memory.{word_at, part_at}
+use Rattle.memory.specs.Memory.{word_at}
 use Rattle.memory.proofs.Laws.{word_in, part_in}
 use Rattle.forms.specs.declared.form.Form.{Form}
 use Rattle.forms.specs.Form.{number_of, size_of, most_text}

@@ -1,5 +1,5 @@
 -- The header, and the records and the text that it tells of. Assumes nothing.
-use Rattle.std.specs.Prelude.{ℕ, ◌+◌, ◌*◌, ◌≤◌, ◌≡◌, List, length, take, drop}
+use Rattle.std.specs.Prelude.{ℕ, ◌*◌, ◌≤◌, ◌≡◌, List, length}
 use Rattle.std.proofs.Math.Option.{Option, none, some}
 use Rattle.paper.specs.Decoder.{Cursor, header}
 use Rattle.paper.specs.DecodeAt.{cursor}

@@ -1,7 +1,7 @@
 -- What the readers leave of a description: one draft a step, in the steps' order. A draft is its step's row, in which the places of texts
 -- are still places in the source: where the path, or the value's text, can be read again. These readers go the way of paper's `Reader`,
 -- line by line, and give drafts where that gives a block. Assumes nothing.
-use Rattle.std.specs.Prelude.{ℕ, zero, suc, ◌+◌, ◌*◌, ◌-◌, true, false, List, [], ◌∷◌, ◌++◌, length, leb, ltb}
+use Rattle.std.specs.Prelude.{ℕ, zero, suc, ◌+◌, ◌*◌, ◌-◌, List, [], ◌∷◌, ◌++◌, length, leb, ltb}
 use Rattle.paper.specs.Bytes.{if◌then◌else◌}
 use Rattle.paper.specs.Answer.{Answer, ok, refused, ◌>>=◌, demand}
 use Rattle.paper.specs.Syntax.{Basic, boolean, null, integer, decimal, string, reference, vector}

@@ -1,12 +1,12 @@
 -- What the readers of references answer, by cases. Assumes nothing.
-use Rattle.std.specs.Prelude.{ℕ, ◌+◌, ◌*◌, ◌≤◌, ◌<◌, ◌≡◌, true, false, List, length}
+use Rattle.std.specs.Prelude.{ℕ, ◌+◌, ◌≤◌, ◌<◌, ◌≡◌, true, false, List, length}
 use Rattle.paper.specs.Answer.{ok, refused}
 use Rattle.paper.specs.Syntax.{Path}
 use Rattle.paper.specs.Tokens.{Token, is_name}
 use Rattle.paper.specs.Scanner.{next}
 use Rattle.paper.specs.Reader.{path, names}
 use Rattle.paper.specs.Layout.{path_text, names_text}
-use Rattle.grammar.specs.Places.{here, Shown, Stood}
+use Rattle.grammar.specs.Places.{here, Stood}
 use Rattle.grammar.specs.Seen.{NameSeen}
 use Rattle.grammar.specs.declared.path.Named.{Named}
 use Rattle.grammar.specs.declared.path.Named.TheVariants.{At, Missing}

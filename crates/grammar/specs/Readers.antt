@@ -1,6 +1,6 @@
 -- The contracts of the readers that call one another. A reader's answer is what the definition gives with any bound that is large enough.
 -- Assumes nothing.
-use Rattle.std.specs.Prelude.{ℕ, suc, ◌+◌, ◌*◌, ◌-◌, ◌≤◌, ◌≡◌, List, [], ◌∷◌, ◌++◌, ltb, length}
+use Rattle.std.specs.Prelude.{ℕ, suc, ◌+◌, ◌*◌, ◌-◌, ◌≤◌, List, [], ◌∷◌, ◌++◌, ltb, length}
 use Rattle.paper.specs.Answer.{Answer, ok, ◌>>=◌, demand}
 use Rattle.paper.specs.Tokens.{Here}
 use Rattle.paper.specs.Scanner.{next}

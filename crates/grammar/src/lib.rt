@@ -1,5 +1,6 @@
 // The readers of a description. They leave one draft for each step, in a lent slice.
 #![tactic(auto)]
+
 mod answer;
 mod basic;
 mod cursor;

@@ -18,7 +18,7 @@ use Rattle.theorems.proofs.Laws.DecodeFree.{element_body, elements_some}
 use Rattle.paper.specs.DecodeFrom.{basic_from, elements_from}
 use Rattle.memory.proofs.Laws.{fit}
 use Rattle.forms.specs.declared.form.Form.{Form}
-use Rattle.forms.specs.Form.{form_of, size_of, fields, fits_in}
+use Rattle.forms.specs.Form.{form_of, size_of, fits_in}
 use Rattle.layout.specs.Walk.{heads, basic_here, elements_here}
 use Rattle.forms.proofs.Forms.{fields_in}
 

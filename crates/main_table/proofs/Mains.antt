@@ -32,7 +32,6 @@ use Rattle.paper.specs.DecodeAt.{word, cursor, headed}
 use Rattle.theorems.proofs.Laws.DecodeFree.{entries_none, table_of_is}
 use Rattle.memory.specs.Memory.{word_at, stored}
 use Rattle.memory.proofs.Laws.{word_in, stored_front}
-use Rattle.main_table.specs.declared.operation.Answer.{Answer}
 use Rattle.main_table.specs.declared.operation.Answer.TheVariants.{Done, Refused}
 use Rattle.table.specs.Walk.{entries_here}
 use Rattle.table.specs.declared.child.Found.TheVariants.{At, Nothing}

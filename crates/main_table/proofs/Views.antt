@@ -6,14 +6,13 @@ use mathlib.Core.Path.{◌≡◌, refl, sym, ◌∙◌, ap}
 use mathlib.Core.Bool.{true, not}
 use mathlib.Core.List.{List, []}
 use mathlib.Core.Option.{Option, none, some}
-use lib.ListN.{length, length-take, length-drop}
+use lib.ListN.{length}
 use borrow.Author.Tests.{eq-eqb, ne_eqb}
-use Rattle.paper.specs.Bytes.{bytes, if◌then◌else◌}
+use Rattle.paper.specs.Bytes.{if◌then◌else◌}
 use Rattle.paper.specs.Maybe.{require}
 use Rattle.paper.specs.Syntax.{Basic}
 use Rattle.paper.specs.Store.{Store, Value, component}
 use Rattle.paper.specs.Store as S
-use Rattle.paper.specs.Layout.{records, table}
 use Rattle.paper.specs.Decoder.{Cursor, ended}
 use Rattle.paper.specs.TableDecoder.{in_table, absent, distinct, table_of}
 use Rattle.theorems.proofs.Decoded.Header.{ended_sound}
@@ -28,7 +27,7 @@ use Rattle.forms.specs.Form.{form_of, size_of, most_text}
 use Rattle.forms.specs.Header.{records_of, text_of, Sized}
 use Rattle.table.specs.Whole.{is_table_of, store_in}
 use Rattle.main_table.specs.Main.{Tabled}
-use Rattle.table.proofs.Inside.{bind_some, some_is, entry_of}
+use Rattle.table.proofs.Inside.{bind_some, some_is}
 use Rattle.table.proofs.Headers.{table_whole}
 use Rattle.paper.specs.Layout.{number, table_row}
 use Rattle.theorems.proofs.Decoded.Rows.{BasicRead, basic_sound}

@@ -1,5 +1,6 @@
 // Calls each function of memory at places within, at the end of and past a slice, and writes what comes of it.
 #![tactic(auto)]
+
 const STDOUT_FILENO: i32 = 1;
 
 fn number(x: u64) {

@@ -1,5 +1,6 @@
 // Rows replaced, and rows copied to another depth.
 #![tactic(auto)]
+
 ghost use Rattle.std.specs.Prelude.{◌≡◌, ◌&&◌, ◌+◌, ◌-◌, ◌*◌, ◌≤◌, leb};
 ghost use Rattle.rows.specs.Change.{spliced, moved, lift_stored};
 

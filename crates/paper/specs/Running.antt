@@ -1,6 +1,6 @@
 -- What it is to run steps in turn, as the operations compute it: the same as what their description means (theorem `compiled`).
 -- Assumes nothing.
-use Rattle.std.specs.Prelude.{ℕ, List, [], ◌∷◌, ◌++◌}
+use Rattle.std.specs.Prelude.{List, [], ◌∷◌, ◌++◌}
 use Rattle.paper.specs.Answer.{Answer, ok, refused, ◌>>=◌}
 use Rattle.paper.specs.Syntax.{Path}
 use Rattle.paper.specs.Store.{Store, ∅, component, resolve}

@@ -1,5 +1,5 @@
 -- Tokens (document 01, "Tokens"): the classes of bytes, the reserved words, and what the tokens are. Assumes nothing.
-use Rattle.std.specs.Prelude.{ℕ, ◌+◌, ◌*◌, ◌-◌, ◌^◌, Bool, true, false, not, ◌||◌, List, [], ◌∷◌, drop, ℤ, pos, negsuc, neg_ℤ, ltb}
+use Rattle.std.specs.Prelude.{ℕ, ◌+◌, ◌*◌, ◌-◌, ◌^◌, Bool, false, not, ◌||◌, List, [], ◌∷◌, drop, ℤ, pos, negsuc, neg_ℤ, ltb}
 use Prim.Native.Char.{Char}
 use Rattle.std.proofs.Math.Option.{Option, none, some}
 use Rattle.paper.specs.Bytes.{bytes, at, is, among, between, same, if◌then◌else◌}

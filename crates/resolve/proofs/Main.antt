@@ -1,9 +1,8 @@
 -- What `run_main` writes straight from the store is main of the whole table that `run` would write. Assumes nothing.
 use Prim.Native.Nat.{ℕ, ◌≤◌}
-use mathlib.Core.Path.{◌≡◌, refl, sym, ap, ◌∙◌}
-use mathlib.Core.List.{List, []}
+use mathlib.Core.Path.{◌≡◌, refl, sym, ◌∙◌}
+use mathlib.Core.List.{List}
 use mathlib.Core.Option.{Option, none, some}
-use lib.Dec.{leb}
 use borrow.Author.Tests.{le-leb}
 use Rattle.paper.specs.Answer.{Answer, ok, refused, demand, ◌>>=◌}
 use Rattle.paper.specs.Syntax.{Block}

@@ -1,11 +1,11 @@
 -- "Resolve answers as translate, run over the empty table, then main", and what becomes of the lent slices on the way. Assumes nothing.
 use Prim.Native.Nat.{ℕ, ◌+◌, ◌-◌, ◌≤◌, ◌<◌}
 use native.Mathlib.Omega.{arith}
-use mathlib.Core.Path.{◌≡◌, refl, sym, ap, subst, ◌∙◌}
+use mathlib.Core.Path.{◌≡◌, refl, sym, ap, ◌∙◌}
 use mathlib.Core.List.{List, [], ◌∷◌, ◌++◌}
-use lib.ListN.{length, take, drop, length-append, length-drop, length-replicate}
-use lib.Seq.{take_at, drop_at, drop-append-add, drop-drop}
-use lib.Dec.{leb, lit≤}
+use lib.ListN.{length, take, drop, length-append}
+use lib.Seq.{take_at, drop-append-add, drop-drop}
+use lib.Dec.{lit≤}
 use borrow.Author.Tests.{le-leb, lt-leb}
 use Rattle.paper.specs.Answer.{Answer, ok, refused, demand, ◌>>=◌}
 use Rattle.paper.specs.Store.{∅}

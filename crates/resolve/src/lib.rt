@@ -1,5 +1,6 @@
 // Operation 4: a description to its main table: translate, run over the empty table, then main.
 #![tactic(auto)]
+
 ghost use Rattle.std.specs.Prelude.{◌≡◌, ◌≤◌, length};
 ghost use Rattle.paper.specs.Store.{∅};
 ghost use Rattle.paper.specs.Layout.{table};

@@ -2,6 +2,7 @@
 // One time is the difference of two counts. Standard input holds five numbers of 32 bits, the lowest byte first, which are the times of each
 // and the description's length; then the description. Each time is a line.
 #![tactic(auto)]
+
 const STDIN_FILENO: i32 = 0;
 
 const STDOUT_FILENO: i32 = 1;

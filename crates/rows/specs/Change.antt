@@ -1,5 +1,5 @@
 -- Rows written: one row, a part of the rows replaced, rows copied to another depth. Assumes nothing.
-use Rattle.std.specs.Prelude.{ℕ, zero, suc, ◌+◌, ◌-◌, ◌*◌, ◌%◌, Bool, ◌&&◌, List, [], ◌++◌, length, take, drop, leb}
+use Rattle.std.specs.Prelude.{ℕ, zero, suc, ◌+◌, ◌-◌, ◌*◌, ◌%◌, Bool, ◌&&◌, List, [], ◌++◌, length, take, leb}
 use Rattle.paper.specs.Bytes.{if◌then◌else◌}
 use Rattle.paper.specs.Layout.{Row, text_of, little}
 use Rattle.memory.specs.Memory.{word_at, stored, slid}

@@ -2,7 +2,7 @@
 use Rattle.std.specs.Prelude.{ℕ, ◌<◌, List, [], ◌∷◌, map, length}
 use Rattle.paper.specs.Syntax.{Name, Basic, Basics}
 use Rattle.paper.specs.Store.{Store, Value}
-use Rattle.paper.specs.Layout.{Field, number, text, Row, name_text, table_row, elements, each, row_text, rows, value_rows}
+use Rattle.paper.specs.Layout.{number, text, Row, name_text, table_row, elements, each, row_text, rows, value_rows}
 
 unfoldable pub sized : Row → Row
 sized x = record { first = x.first; second = x.second; label = x.label; span = length (row_text x); value = x.value; last = x.last }

@@ -1,5 +1,5 @@
 -- What is looked for among rows. Assumes nothing.
-use Rattle.std.specs.Prelude.{ℕ, zero, suc, ◌+◌, Bool, true, false, ◌&&◌, List, [], ◌∷◌, drop, ltb, eqb}
+use Rattle.std.specs.Prelude.{ℕ, suc, ◌+◌, Bool, false, ◌&&◌, List, [], ◌∷◌, drop, ltb, eqb}
 use Rattle.std.proofs.Math.Option.{Option, none, some}
 use Rattle.paper.specs.Bytes.{same, if◌then◌else◌}
 use Rattle.paper.specs.Syntax.{Name}

@@ -1,20 +1,20 @@
 -- Bind and then the bounds; and the attributes of a store, one by one. Assumes nothing.
-use Prim.Native.Nat.{ℕ, zero, suc, ◌+◌, ◌-◌, ◌*◌, ◌≤◌, ◌<◌}
+use Prim.Native.Nat.{ℕ, suc, ◌+◌, ◌-◌, ◌*◌, ◌≤◌, ◌<◌}
 use native.Mathlib.Omega.{arith}
 use mathlib.Core.Path.{◌≡◌, refl, sym, ap, ◌∙◌, subst}
 use mathlib.Core.Bool.{Bool, true, false}
-use mathlib.Core.List.{List, [], ◌∷◌, ◌++◌, append_assoc, append-nil}
+use mathlib.Core.List.{List, [], ◌∷◌, ◌++◌, append-nil}
 use lib.ListN.{length, take, drop, length-append, length-drop}
 use lib.Seq.{drop_at, take_at, drop-drop}
-use lib.Dec.{leb, eqb}
-use borrow.Author.Tests.{le-leb, lt-leb, eqb-true}
+use lib.Dec.{eqb}
+use borrow.Author.Tests.{le-leb, lt-leb}
 use Rattle.paper.specs.Bytes.{if◌then◌else◌}
 use Rattle.paper.specs.Answer.{Answer, ok, refused, demand, ◌>>=◌}
 use Rattle.paper.specs.Syntax.{Name, Path}
-use Rattle.paper.specs.Store.{Store, ∅, entry, Value, put, bind}
-use Rattle.paper.specs.Bounds.{Bounded, bounded, assign}
+use Rattle.paper.specs.Store.{Store, ∅, entry, Value, put}
+use Rattle.paper.specs.Bounds.{bounded, assign}
 use Rattle.paper.specs.Meaning.{copy}
-use Rattle.paper.specs.Layout.{Field, number, text, Row, name_text, rows, deepest, texts}
+use Rattle.paper.specs.Layout.{number, text, Row, name_text, rows, deepest, texts}
 use Rattle.rows.specs.View.{view, rows_in, label_of, label_text, name_of, seen, groups}
 use Rattle.rows.specs.Search.{deeper, text_bytes}
 use Rattle.rows.specs.Change.{field_at, row_here}
@@ -22,12 +22,11 @@ use Rattle.rows.specs.Flat.{flat, flat_value, Low}
 use Rattle.rows.proofs.Groups.{groups_drop, groups_take, groups_own}
 use Rattle.rows.proofs.Views.{length_view, here_label, view_cons, view_end}
 use Rattle.rows.proofs.Trees.{head, beneath, flat_head, flat_entry, flat_none, head_label, deeper_value, low_rest, deepest_flat, text_bytes_flat, length_flat}
-use Rattle.run.specs.declared.place.Place.{Place}
 use Rattle.run.specs.declared.place.Place.TheVariants.{In, Absent, NoComponent}
 use Rattle.run.specs.declared.put.Ran.{Ran}
 use Rattle.run.specs.declared.put.Ran.TheVariants.{Done, Refused}
 use Rattle.run.specs.Paths.{Reached, DescendsFrom}
-use Rattle.run.specs.Puts.{Over, Over.too_deep, Over.too_many, Over.too_long, Within, BoundedIs, PutsBounded, Held, RanIs, RanIs.gone, RanIs.stopped, Assigns, Copies}
+use Rattle.run.specs.Puts.{Over, Over.too_deep, Over.too_many, Over.too_long, BoundedIs, PutsBounded, Held, RanIs, RanIs.gone, RanIs.stopped, Assigns}
 use Rattle.run.proofs.Walking.{rows_view}
 
 -- ---- the bounds of a store

@@ -1,41 +1,35 @@
 -- Statements and prototypes, from what the code's calls answer. Assumes nothing.
-use Prim.Native.Nat.{ℕ, zero, suc, ◌+◌, ◌-◌, ◌*◌, ◌^◌, ◌≤◌, ◌<◌}
+use Prim.Native.Nat.{ℕ, suc, ◌+◌, ◌-◌, ◌*◌, ◌^◌, ◌≤◌, ◌<◌}
 use native.Mathlib.Omega.{arith}
 use native.Mathlib.Nat.{add-zero}
-use mathlib.Core.Logic.{◌⊎◌, inl, inr}
+use mathlib.Core.Logic.{inl}
 use mathlib.Core.Path.{◌≡◌, refl, sym, ap, ◌∙◌, subst}
 use mathlib.Core.List.{List, [], ◌∷◌, ◌++◌, append_assoc, append-nil}
 use lib.ListN.{length, drop, get_or, length-append, length-drop}
-use lib.Seq.{get_or-drop, drop-drop, drop_at}
-use Rattle.paper.specs.Answer.{Answer, ok, refused, ◌>>=◌}
-use Rattle.paper.specs.Syntax.{Name, Path, Basic, boolean, null, integer, decimal, string, reference, vector, Basics, εⱽ, ◌∷ⱽ◌, Block, εᴮ, ◌∷ᴮ◌, Statement, assign, Value, basic, link, extends, Prototypes, εᴾ, named, block}
-use Rattle.paper.specs.Store.{Store, ∅, component, resolve}
-use Rattle.paper.specs.Store as S
-use Rattle.paper.specs.Bounds as Bounds
-use Rattle.paper.specs.Meaning.{linked, inherit, B⟦◌⟧, A⟦◌⟧, V⟦◌⟧, P⟦◌⟧}
-use Rattle.paper.specs.Layout.{Field, number, text, Row, little, name_text, path_text, names_text, elements, each, kind, content, text_of, row_text, texts, figure, records, row_bytes}
+use lib.Seq.{drop-drop, drop_at}
+use Rattle.paper.specs.Answer.{Answer, ok}
+use Rattle.paper.specs.Syntax.{Name, Path, Basic, boolean, null, integer, decimal, string, reference, vector, Basics, εⱽ, ◌∷ⱽ◌, Value, basic, link, extends, Prototypes}
+use Rattle.paper.specs.Store.{Store}
+use Rattle.paper.specs.Layout.{Row, little, name_text, path_text, names_text, elements, each, text_of, row_text, texts, figure, records, row_bytes}
 use Rattle.paper.specs.Steps as Steps
 use Rattle.paper.specs.Steps.{Step, steps, statement_steps, value_steps, prototype_steps}
 use Rattle.paper.specs.StepLayout.{step_row, item, step_rows, all_rows}
-use Rattle.paper.specs.WellFormed.{IsPath, IsPlace, IsBasic, IsBlock, IsStatement, IsValueOf, ArePrototypes}
+use Rattle.paper.specs.WellFormed.{IsPath, IsPlace, IsBasic, IsValueOf}
 use Rattle.theorems.proofs.Decoded.Parts.{length_little}
-use Rattle.theorems.proofs.Laws.Answers.{assoc, under}
 use Rattle.paper.specs.DecodeAt.{word}
 use Rattle.memory.specs.Memory.{word_at, stored}
 use Rattle.memory.proofs.Laws.{word_in, same_word, byte_stored, length_stored, word_little}
-use Rattle.rows.specs.View.{view, label_text}
+use Rattle.rows.specs.View.{label_text}
 use Rattle.run.specs.declared.put.Ran.{Ran}
-use Rattle.run.specs.declared.put.Ran.TheVariants.{Done}
-use Rattle.run.specs.declared.put.Ran.TheVariants.{Refused as Not}
 use Rattle.run.specs.declared.block.Went.{Went}
-use Rattle.run.specs.declared.block.Went.TheVariants.{Next, Refused}
+use Rattle.run.specs.declared.block.Went.TheVariants.{Next}
 use Rattle.run.specs.Paths.{names}
 use Rattle.run.specs.Puts.{Held, RanIs, RanIs.gone, RanIs.stopped}
 use Rattle.run.specs.Listed.{Lies, step_field, path_count, places}
-use Rattle.run.specs.Stepping.{scope_in, ScopeKept, Target, NamesPut, Makes, Sets, Links, Takes}
-use Rattle.run.specs.Blocks.{Placed, KeptTo, WentIs, WentIs.on, WentIs.off, Stops, ComponentIs, StatementIs, StatementsAre, One, One.reference, One.braces, PrototypeIs, PrototypesAre}
-use Rattle.run.proofs.Lying.{Small, lies_first, lies_next, lies_label, lies_in, lies_end, lies_skip, small_make, small_take, small_enter, small_leave, small_done, small_link, small_set, small_set_head, AllSmall}
-use Rattle.run.proofs.Placing.{length_places, path_placed, last_placed, names_kept, names_joined, names_front}
+use Rattle.run.specs.Stepping.{scope_in, Target, NamesPut}
+use Rattle.run.specs.Blocks.{Placed, KeptTo, WentIs, WentIs.on, WentIs.off, One.reference}
+use Rattle.run.proofs.Lying.{Small, lies_first, lies_label, small_make, small_link, small_set}
+use Rattle.run.proofs.Placing.{length_places, path_placed, last_placed, names_kept, names_joined}
 use Rattle.run.proofs.Stepping.{word_drop}
 
 -- ---- rows of steps

@@ -1,13 +1,13 @@
 -- The ways through `find` and `resolve`, from what their calls answer. Assumes nothing.
-use Prim.Native.Nat.{ℕ, zero, suc, ◌+◌, ◌-◌, ◌*◌, ◌≤◌, ◌<◌}
+use Prim.Native.Nat.{ℕ, zero, suc, ◌+◌, ◌-◌, ◌*◌, ◌≤◌}
 use native.Mathlib.Omega.{arith}
 use mathlib.Core.Path.{◌≡◌, refl, sym, ap, ◌∙◌, subst}
 use mathlib.Core.List.{List, [], ◌∷◌, ◌++◌, append_assoc, append-nil}
-use mathlib.Core.Option.{Option, none, some}
+use mathlib.Core.Option.{none}
 use lib.ListN.{length, take, drop, length-append, take-append-drop}
-use lib.Seq.{drop_at, take_at, drop-cons, take_all, take-take}
+use lib.Seq.{drop_at, take-take}
 use Rattle.paper.specs.Syntax.{Name, Path}
-use Rattle.paper.specs.Store.{Store, Value, component, put, lookup, find, resolve_in}
+use Rattle.paper.specs.Store.{Store, component, find, resolve_in}
 use Rattle.paper.specs.Layout.{Row}
 use Rattle.paper.specs.DecodeAt.{word}
 use Rattle.memory.specs.Memory.{word_at}
@@ -18,9 +18,8 @@ use Rattle.rows.specs.Search.{seek, sought}
 use Rattle.rows.specs.Flat.{flat, flat_value, Low}
 use Rattle.rows.proofs.Groups.{length_groups}
 use Rattle.rows.proofs.Trees.{Spot, Spot.absent, Spot.present, spot}
-use Rattle.run.specs.declared.place.Place.{Place}
 use Rattle.run.specs.declared.place.Place.TheVariants.{In, Absent, NoComponent}
-use Rattle.run.specs.Paths.{names, Reached, Missing, DescendsFrom, StandsAt, FoundIn, FindIs, FindsFrom, FindsIn, ResolvesIn}
+use Rattle.run.specs.Paths.{names, Reached, Missing, DescendsFrom, FoundIn, FindIs, FindsFrom, FindsIn, ResolvesIn}
 use Rattle.run.proofs.Leading.{find_first, find_none, none≢some, some_is}
 use Rattle.run.proofs.Walking.{name_here, names_end, rows_view, sought_in}
 

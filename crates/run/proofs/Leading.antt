@@ -1,17 +1,16 @@
 -- One name of a path after another. Assumes nothing.
-use Prim.Native.Nat.{ℕ, zero, suc, ◌+◌, ◌≤◌, ◌<◌}
+use Prim.Native.Nat.{ℕ, suc, ◌+◌, ◌≤◌}
 use native.Mathlib.Omega.{arith}
 use native.Mathlib.Nat.{add-zero}
 use mathlib.Core.Path.{◌≡◌, refl, sym, ap, ◌∙◌, subst}
-use mathlib.Core.Bool.{Bool, true, false}
 use mathlib.Core.List.{List, [], ◌∷◌, ◌++◌, append_assoc}
-use mathlib.Core.Option.{Option, none, some}
+use mathlib.Core.Option.{none, some}
 use lib.ListN.{length, drop, length-append}
 use lib.Seq.{drop_at}
-use Rattle.paper.specs.Answer.{Answer, ok, refused, ◌>>=◌}
+use Rattle.paper.specs.Answer.{ok, refused, ◌>>=◌}
 use Rattle.paper.specs.Syntax.{Name, Path, Basic, boolean, null, integer, decimal, string, reference, vector}
 use Rattle.paper.specs.Store.{Store, Value, basic, component, put, lookup, find, bind}
-use Rattle.paper.specs.Layout.{Field, Row, text, number, name_text, table_row, kind, content}
+use Rattle.paper.specs.Layout.{Row, table_row, kind}
 use Rattle.rows.specs.Search.{seek}
 use Rattle.rows.specs.Flat.{sized, flat, flat_value, Low}
 use Rattle.rows.proofs.Trees.{line, head, beneath, flat_head, Spot, Spot.absent, Spot.present, spot}

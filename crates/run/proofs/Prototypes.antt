@@ -1,34 +1,30 @@
 -- The ways through one prototype, and the turns of the two loops. Assumes nothing.
-use Prim.Native.Nat.{ℕ, zero, suc, ◌+◌, ◌-◌, ◌*◌, ◌≤◌, ◌<◌}
+use Prim.Native.Nat.{ℕ, ◌+◌, ◌≤◌, ◌<◌}
 use native.Mathlib.Omega.{arith}
-use native.Mathlib.Nat.{add-zero, add_assoc}
+use native.Mathlib.Nat.{add-zero}
 use mathlib.Core.Path.{◌≡◌, refl, sym, ap, ◌∙◌, subst}
-use mathlib.Core.Bool.{Bool, true, false, ◌||◌, false≢true}
+use mathlib.Core.Bool.{true, false, false≢true}
 use mathlib.Core.List.{List, [], ◌∷◌, ◌++◌, append_assoc, append-nil}
-use lib.ListN.{length, drop, length-append}
+use lib.ListN.{length, length-append}
 use Rattle.paper.specs.Answer.{Answer, ok, refused, ◌>>=◌}
-use Rattle.paper.specs.Syntax.{Name, Path, Basic, Block, εᴮ, ◌∷ᴮ◌, Statement, assign, Value, basic, link, extends, Prototypes, εᴾ, named, block}
+use Rattle.paper.specs.Syntax.{Path, Block, εᴮ, ◌∷ᴮ◌, Statement, assign, Value, basic, link, extends, Prototypes, εᴾ, named, block}
 use Rattle.paper.specs.Store.{Store, resolve}
 use Rattle.paper.specs.Meaning.{inherit, B⟦◌⟧, A⟦◌⟧, P⟦◌⟧}
-use Rattle.paper.specs.Layout.{Field, number, text, Row, path_text, row_text, texts}
+use Rattle.paper.specs.Layout.{number, Row}
 use Rattle.paper.specs.Steps as Steps
 use Rattle.paper.specs.Steps.{steps, statement_steps, value_steps, prototype_steps}
 use Rattle.paper.specs.StepLayout.{step_row, step_rows, all_rows}
-use Rattle.paper.specs.WellFormed.{IsPath, IsBlock, IsStatement, IsValueOf, ArePrototypes}
+use Rattle.paper.specs.WellFormed.{IsBlock, IsStatement, ArePrototypes}
 use Rattle.theorems.proofs.Laws.Answers.{assoc}
 use Rattle.rows.specs.View.{view}
 use Rattle.run.specs.declared.put.Ran.{Ran}
-use Rattle.run.specs.declared.put.Ran.TheVariants.{Done}
-use Rattle.run.specs.declared.put.Ran.TheVariants.{Refused as Not}
-use Rattle.run.specs.declared.block.Went.{Went}
 use Rattle.run.specs.declared.block.Went.TheVariants.{Next, Refused}
-use Rattle.run.specs.Paths.{names}
-use Rattle.run.specs.Puts.{Held, RanIs, RanIs.gone, RanIs.stopped}
+use Rattle.run.specs.Puts.{Held}
 use Rattle.run.specs.Listed.{Lies, step_field}
 use Rattle.run.specs.Stepping.{scope_in, Takes}
-use Rattle.run.specs.Blocks.{begins_statement, begins_prototype, Placed, WentIs, WentIs.on, WentIs.off, Stops, StatementIs, StatementsAre, One, One.reference, One.braces, PrototypeIs, PrototypesAre}
-use Rattle.run.proofs.Lying.{Small, lies_first, lies_next, lies_in, lies_end, lies_skip, small_take, small_enter, small_leave, small_done}
-use Rattle.run.proofs.Evaluating.{all_rows-++, one_step, Long, long-++, long_steps, lies_few, lies_pass, code, placed_is, place_small, GoesOn, goes_on, First, first}
+use Rattle.run.specs.Blocks.{begins_statement, begins_prototype, Placed, WentIs, WentIs.on, WentIs.off, Stops, StatementsAre, One, One.reference, One.braces, PrototypeIs}
+use Rattle.run.proofs.Lying.{Small, lies_first, lies_next, lies_end, small_take, small_enter, small_leave, small_done}
+use Rattle.run.proofs.Evaluating.{all_rows-++, one_step, Long, long-++, long_steps, lies_few, lies_pass, code, placed_is, place_small, goes_on, first}
 
 -- ---- records of a prototype
 

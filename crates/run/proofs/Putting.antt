@@ -1,16 +1,13 @@
 -- A part of the rows replaced is a put, and the bounds after it. Assumes nothing.
 use Prim.Native.Nat.{ℕ, zero, suc, ◌+◌, ◌-◌, ◌*◌, ◌^◌, ◌≤◌, ◌<◌, max}
 use native.Mathlib.Omega.{arith}
-use mathlib.Core.Path.{◌≡◌, refl, sym, ap, ◌∙◌, subst}
-use mathlib.Core.List.{List, [], ◌∷◌, ◌++◌, append_assoc, append-nil}
-use mathlib.Core.Option.{Option, none, some}
+use mathlib.Core.Path.{◌≡◌, refl, sym, ap, ◌∙◌}
+use mathlib.Core.List.{List, [], ◌∷◌, ◌++◌, append_assoc}
+use mathlib.Core.Option.{none, some}
 use lib.ListN.{length, take, drop, length-append, length-drop, take-append-drop}
 use lib.Seq.{drop_at, take_at, drop-drop, take_all}
-use mathlib.Core.Bool.{Bool, true, false}
-use lib.Dec.{ltb}
-use Rattle.paper.specs.Bytes.{if◌then◌else◌}
-use Rattle.paper.specs.Syntax.{Name, Path}
-use Rattle.paper.specs.Store.{Store, ∅, Value, put, lookup}
+use Rattle.paper.specs.Syntax.{Name}
+use Rattle.paper.specs.Store.{Store, Value, put}
 use Rattle.paper.specs.Layout.{Row, deepest}
 use Rattle.rows.specs.View.{view, rows_in}
 use Rattle.rows.specs.Search.{seek, deeper, text_bytes}
@@ -23,10 +20,7 @@ use Rattle.theorems.proofs.Laws.DecodeAt.{Bytes}
 use Rattle.paper.specs.DecodeAt.{word}
 use Rattle.memory.proofs.Laws.{word_below}
 use Rattle.rows.proofs.Trees.{head, beneath, flat_head, head_depth, deep_flat, deeper_deep, deeper_low, deeper_value, Spot, Spot.absent, Spot.present, spot, text_bytes-++, deepest-++}
-use Rattle.run.specs.declared.put.Size.{Size}
-use Rattle.run.specs.declared.put.Ran.{Ran}
-use Rattle.run.specs.declared.put.Ran.TheVariants.{Done, Refused}
-use Rattle.run.specs.Puts.{Replaced, Put, Over, Over.too_deep, Over.too_many, Over.too_long, Within, BoundedIs}
+use Rattle.run.specs.Puts.{Replaced, Put, Over, Over.too_deep, Over.too_many, Over.too_long, Within}
 use Rattle.run.proofs.Leading.{none≢some, some_is}
 use Rattle.run.proofs.Walking.{rows_view}
 

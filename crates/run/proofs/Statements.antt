@@ -1,33 +1,33 @@
 -- The ways through one statement, and through a component. Assumes nothing.
-use Prim.Native.Nat.{ℕ, zero, suc, ◌+◌, ◌-◌, ◌*◌, ◌≤◌, ◌<◌}
+use Prim.Native.Nat.{ℕ, ◌+◌, ◌*◌, ◌≤◌, ◌<◌}
 use native.Mathlib.Omega.{arith}
 use mathlib.Core.Path.{◌≡◌, refl, sym, ap, ◌∙◌, subst}
-use mathlib.Core.List.{List, [], ◌∷◌, ◌++◌, append_assoc, append-nil}
-use lib.ListN.{length, drop, length-append}
+use mathlib.Core.List.{List, [], ◌∷◌, ◌++◌}
+use lib.ListN.{length, drop}
 use Rattle.paper.specs.Answer.{Answer, ok, refused, ◌>>=◌}
-use Rattle.paper.specs.Syntax.{Name, Path, Basic, Statement, assign, Value, basic, link, extends, Prototypes}
+use Rattle.paper.specs.Syntax.{Path, Basic, assign, basic, link, extends, Prototypes}
 use Rattle.paper.specs.Store.{Store, ∅, component, resolve}
 use Rattle.paper.specs.Store as S
 use Rattle.paper.specs.Bounds as Bounds
 use Rattle.paper.specs.Meaning.{linked, A⟦◌⟧, V⟦◌⟧, P⟦◌⟧}
-use Rattle.paper.specs.Layout.{Field, number, text, Row, path_text, text_of, row_text, elements}
+use Rattle.paper.specs.Layout.{number, text, Row, path_text, row_text}
 use Rattle.run.specs.Paths.{names}
 use Rattle.paper.specs.Steps as Steps
 use Rattle.paper.specs.Steps.{statement_steps, value_steps, prototype_steps}
-use Rattle.paper.specs.StepLayout.{step_row, item, step_rows, all_rows}
-use Rattle.paper.specs.WellFormed.{IsPath, IsStatement, IsValueOf}
+use Rattle.paper.specs.StepLayout.{step_row, step_rows, all_rows}
+use Rattle.paper.specs.WellFormed.{IsValueOf}
 use Rattle.rows.specs.View.{view}
 use Rattle.run.specs.declared.put.Ran.{Ran}
 use Rattle.run.specs.declared.put.Ran.TheVariants.{Done}
 use Rattle.run.specs.declared.put.Ran.TheVariants.{Refused as Not}
 use Rattle.run.specs.declared.block.Went.{Went}
-use Rattle.run.specs.declared.block.Went.TheVariants.{Next, Refused}
-use Rattle.run.specs.Puts.{Held, RanIs, RanIs.gone, RanIs.stopped}
+use Rattle.run.specs.declared.block.Went.TheVariants.{Refused}
+use Rattle.run.specs.Puts.{RanIs, RanIs.gone, RanIs.stopped}
 use Rattle.run.specs.Listed.{Lies, step_field}
-use Rattle.run.specs.Stepping.{scope_in, Target, NamesPut, Makes, Sets, Links}
-use Rattle.run.specs.Blocks.{Placed, WentIs, WentIs.on, WentIs.off, ComponentIs, StatementIs, PrototypesAre}
+use Rattle.run.specs.Stepping.{scope_in, NamesPut, Makes, Sets, Links}
+use Rattle.run.specs.Blocks.{Placed, WentIs, WentIs.off, ComponentIs, StatementIs, PrototypesAre}
 use Rattle.run.proofs.Lying.{lies_first, lies_next, small_make, small_set}
-use Rattle.run.proofs.Evaluating.{one_step, long_set, lies_few, placed_is, First, first, make_rows, set_rows, link_rows, Joined, joined, target_count, names_before}
+use Rattle.run.proofs.Evaluating.{one_step, long_set, lies_few, placed_is, first, make_rows, set_rows, link_rows, joined, target_count, names_before}
 
 set_some : (p : ℕ) (l : Path) (b : Basic) → 1 ≤ length (step_rows (Steps.set p l b))
 unfolding step_rows

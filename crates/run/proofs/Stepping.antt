@@ -1,17 +1,16 @@
 -- One step, from what its calls answer. Assumes nothing.
-use Prim.Native.Nat.{ℕ, zero, suc, ◌+◌, ◌-◌, ◌*◌, ◌%◌, ◌≤◌, ◌<◌}
+use Prim.Native.Nat.{ℕ, suc, ◌+◌, ◌-◌, ◌*◌, ◌%◌, ◌≤◌, ◌<◌}
 use native.Mathlib.Omega.{arith}
 use native.Mathlib.Nat.{le_of_eq}
-use mathlib.Core.Path.{◌≡◌, refl, sym, ap, ◌∙◌, subst}
-use mathlib.Core.Logic.{◌⊎◌, inl, inr}
-use mathlib.Core.List.{List, [], ◌∷◌, ◌++◌, append_assoc, append-nil}
-use mathlib.Core.Option.{Option, none, some}
+use mathlib.Core.Path.{◌≡◌, sym, ap, ◌∙◌, subst}
+use mathlib.Core.Logic.{inl}
+use mathlib.Core.List.{List, [], ◌∷◌, ◌++◌, append-nil}
+use mathlib.Core.Option.{some}
 use lib.ListN.{length, take, drop, get_or, length-append, length-drop}
 use lib.Seq.{drop_at, take_at, take_all, get_or-drop}
 use borrow.Author.Tests.{ne_eqb}
 use Rattle.paper.specs.Bytes.{if◌then◌else◌}
-use Rattle.paper.specs.Answer.{Answer, ok, refused}
-use Rattle.paper.specs.Syntax.{Name, Path, Basic}
+use Rattle.paper.specs.Syntax.{Name, Path}
 use Rattle.paper.specs.Store.{Store, ∅, Value, basic, component, resolve, resolve_in}
 use Rattle.paper.specs.Bounds.{assign}
 use Rattle.paper.specs.Meaning.{linked, inherit, copy}
@@ -19,7 +18,7 @@ use Rattle.paper.specs.Layout.{Field, number, text, Row, name_text, path_text, t
 use Rattle.paper.specs.Layout as Layout
 use Rattle.paper.specs.Steps as Steps
 use Rattle.paper.specs.StepLayout.{step_rows, step_row}
-use Rattle.paper.specs.WellFormed.{IsPath, IsPlace, IsBasic}
+use Rattle.paper.specs.WellFormed.{IsPath, IsPlace}
 use Rattle.memory.specs.Memory.{word_at, stored}
 use Rattle.memory.proofs.Laws.{length_stored, word_in, same_word, word_other}
 use Rattle.rows.specs.declared.search.Found.{Found}
@@ -28,16 +27,16 @@ use Rattle.rows.specs.View.{groups, view, byte_of, label_of, label_text, name_of
 use Rattle.rows.specs.Search.{text_bytes}
 use Rattle.rows.specs.Change.{field_at, row_bytes, row_stored}
 use Rattle.rows.specs.Flat.{sized, flat, flat_value}
-use Rattle.rows.proofs.Views.{length_view, seen_row, view_row}
+use Rattle.rows.proofs.Views.{seen_row, view_row}
 use Rattle.rows.proofs.Trees.{line, head, beneath, flat_head, flat_none, deepest_flat, text_bytes_flat}
 use Rattle.run.specs.declared.put.Ran.{Ran}
-use Rattle.run.specs.declared.put.Ran.TheVariants.{Done, Refused}
+use Rattle.run.specs.declared.put.Ran.TheVariants.{Refused}
 use Rattle.run.specs.Paths.{names, StandsAt, FindIs, ResolvesIn}
-use Rattle.run.specs.Puts.{Held, RanIs, RanIs.gone, RanIs.stopped, Assigns, Copies}
+use Rattle.run.specs.Puts.{Held, RanIs, RanIs.stopped, Assigns, Copies}
 use Rattle.run.specs.Takes.{AttributesTaken, ValueTaken}
 use Rattle.run.specs.Listed.{SetIn, Lies, path_count, places, step_field}
 use Rattle.run.specs.Stepping.{scope_in, ScopeKept, Target, NamesPut, BindsLast, Makes, Sets, Links, Takes}
-use Rattle.run.proofs.Leading.{none≢some, some_is, Sort, Sort.is_basic, Sort.is_component, sort, first_of}
+use Rattle.run.proofs.Leading.{Sort, Sort.is_basic, Sort.is_component, sort, first_of}
 use Rattle.run.proofs.Walking.{kind_here}
 use Rattle.run.proofs.Finding.{length_names, names_take}
 use Rattle.run.proofs.Assigning.{name_there}

@@ -1,30 +1,29 @@
 -- Copies of a value's rows are the value's rows where it will stand. Assumes nothing.
-use Prim.Native.Nat.{ℕ, zero, suc, ◌+◌, ◌-◌, ◌*◌, ◌%◌, ◌^◌, ◌≤◌, ◌<◌, max}
+use Prim.Native.Nat.{ℕ, suc, ◌+◌, ◌-◌, ◌*◌, ◌%◌, ◌^◌, ◌≤◌, ◌<◌, max}
 use native.Mathlib.Omega.{arith}
 use native.Mathlib.Nat.{zero-add}
 use mathlib.Core.Path.{◌≡◌, refl, sym, ap, ap₂, ◌∙◌, subst}
-use mathlib.Core.Bool.{Bool, true, false, ◌&&◌}
-use mathlib.Core.List.{List, [], ◌∷◌, ◌++◌, append_assoc, append-nil, map}
+use mathlib.Core.Bool.{Bool, true, false}
+use mathlib.Core.List.{List, [], ◌∷◌, ◌++◌, map}
 use lib.ListN.{length, take, drop, get_or, length-append, length-drop}
-use lib.Seq.{drop_at, take_at, take-append-le, drop-append-le, length-take-le, drop-drop, drop-append-add}
-use lib.Dec.{ltb, leb, eqb}
+use lib.Seq.{drop_at, take_at, length-take-le, drop-drop, drop-append-add}
+use lib.Dec.{ltb, leb}
 use borrow.Author.Tests.{ne_eqb, leb-true}
 use Rattle.paper.specs.Bytes.{if◌then◌else◌}
 use Rattle.paper.specs.Syntax.{Name}
 use Rattle.paper.specs.Store.{Store, Value, basic, component}
 use Rattle.paper.specs.Layout.{Field, number, text, Row, name_text, text_of, row_text, table_row, kind, content, deepest}
 use Rattle.theorems.proofs.Laws.DecodeAt.{Bytes}
-use Rattle.paper.specs.DecodeAt.{word}
 use Rattle.memory.specs.Memory.{part_at, stored, within}
-use Rattle.memory.proofs.Laws.{word_below, stored_in, length_stored}
+use Rattle.memory.proofs.Laws.{word_below, stored_in}
 use Rattle.rows.specs.View.{groups, view, rows_in, byte_of, text_part, label_of, label_text, value_of}
 use Rattle.rows.specs.Search.{deeper, text_bytes}
 use Rattle.rows.specs.Change.{field_at, moved, row_bytes, row_stored, lift_stored, lifts_in, lifted, row_here}
-use Rattle.rows.specs.Flat.{sized, flat, flat_value, Low}
+use Rattle.rows.specs.Flat.{sized, flat, flat_value}
 use Rattle.rows.proofs.Fields.{field_word, length_row}
 use Rattle.rows.proofs.Changes.{length_lifted}
-use Rattle.rows.proofs.Views.{length_view, here_seen, seen_row, view_cons, view_row, view_lift, length_row_stored, length_lift}
-use Rattle.rows.proofs.Trees.{line, head, beneath, flat_head, flat_component, head_depth, head_label, deeper_value, text_bytes-++, deepest-++, row_moved, moved_beneath, flat_moved}
+use Rattle.rows.proofs.Views.{length_view, seen_row, view_cons, view_row, view_lift, length_row_stored}
+use Rattle.rows.proofs.Trees.{line, head, beneath, flat_head, head_depth, head_label, deeper_value, text_bytes-++, deepest-++, row_moved, moved_beneath}
 use Rattle.run.specs.Paths.{StandsAt}
 use Rattle.run.proofs.Walking.{rows_view}
 use Rattle.run.proofs.Assigning.{view_part, label_there}

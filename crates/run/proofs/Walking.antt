@@ -1,26 +1,21 @@
 -- The ways through `descend`, from what its calls answer. Assumes nothing.
-use Prim.Native.Nat.{ℕ, zero, suc, ◌+◌, ◌-◌, ◌*◌, ◌≤◌, ◌<◌}
+use Prim.Native.Nat.{ℕ, suc, ◌+◌, ◌-◌, ◌*◌, ◌≤◌, ◌<◌}
 use native.Mathlib.Omega.{arith}
 use native.Mathlib.Numerals.{add-one}
-use mathlib.Core.Path.{◌≡◌, refl, sym, ap, ◌∙◌, subst}
-use mathlib.Core.List.{List, [], ◌∷◌, ◌++◌}
+use mathlib.Core.Path.{◌≡◌, sym, ap, ◌∙◌, subst}
+use mathlib.Core.List.{List, [], ◌∷◌}
 use mathlib.Core.Option.{Option, none, some}
-use mathlib.Core.Bool.{Bool, true, false, ◌&&◌}
-use lib.Dec.{ltb, eqb}
 use native.Mathlib.Nat.{zero-add}
 use lib.ListN.{length, take, drop, get_or, length-drop}
 use lib.Seq.{get_or-take, get_or-drop}
-use Rattle.paper.specs.Bytes.{if◌then◌else◌}
 use Rattle.paper.specs.Syntax.{Name, Path}
-use Rattle.paper.specs.Store.{Store}
 use Rattle.paper.specs.Layout.{Row}
 use Rattle.paper.specs.DecodeAt.{word}
 use Rattle.memory.specs.Memory.{word_at}
 use Rattle.memory.proofs.Laws.{word_in, same_word}
-use Rattle.rows.specs.View.{name_of, groups, view, kept, rows_in}
-use Rattle.rows.specs.Search.{calls, seek}
+use Rattle.rows.specs.View.{name_of, groups, view, rows_in}
+use Rattle.rows.specs.Search.{seek}
 use Rattle.rows.specs.Change.{field_at, row_here}
-use Rattle.rows.specs.Flat.{flat, Low}
 use Rattle.rows.proofs.Searches.{seek_in}
 use Rattle.rows.proofs.Groups.{groups_cons, groups_end}
 use Rattle.rows.proofs.Views.{kept_is, length_view, view_cons}

@@ -1,5 +1,5 @@
 -- What statements and prototypes come to, by the paper's valuation functions. Assumes nothing.
-use Rattle.std.specs.Prelude.{ℕ, ◌+◌, ◌≤◌, ◌<◌, ◌≡◌, Bool, ◌||◌, List, [], ◌∷◌, ◌++◌, length, drop, eqb}
+use Rattle.std.specs.Prelude.{ℕ, ◌+◌, ◌≤◌, ◌≡◌, Bool, ◌||◌, List, [], ◌∷◌, ◌++◌, length, drop, eqb}
 use Rattle.paper.specs.Answer.{Answer, ok, refused}
 use Rattle.paper.specs.Syntax.{Name, Path, Block, Statement, Prototypes, εᴾ, named, block, extends}
 use Rattle.paper.specs.Store.{Store}

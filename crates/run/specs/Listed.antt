@@ -1,12 +1,12 @@
 -- The records of a step list where they stand, and what a path and a set are made of. Assumes nothing.
-use Rattle.std.specs.Prelude.{ℕ, zero, suc, ◌+◌, ◌*◌, ◌≤◌, ◌<◌, min, ◌≡◌, List, [], ◌∷◌, ◌++◌, length, drop, get_or}
+use Rattle.std.specs.Prelude.{ℕ, zero, suc, ◌+◌, ◌*◌, ◌≤◌, min, ◌≡◌, List, [], ◌++◌, length, drop, get_or}
 use Rattle.paper.specs.Syntax.{Name, Path, Basic}
-use Rattle.paper.specs.Store.{Value, basic}
+use Rattle.paper.specs.Store.{basic}
 use Rattle.paper.specs.Layout.{Row, name_text, little, records, texts}
-use Rattle.paper.specs.Steps.{Step, set}
+use Rattle.paper.specs.Steps.{set}
 use Rattle.paper.specs.StepLayout.{step_rows}
 use Rattle.paper.specs.WellFormed.{IsPath, IsBasic}
-use Rattle.memory.specs.Memory.{word_at, stored}
+use Rattle.memory.specs.Memory.{word_at}
 use Rattle.rows.specs.View.{view, label_text}
 use Rattle.rows.specs.Flat.{flat_value}
 

@@ -2,7 +2,7 @@
 use Rattle.std.specs.Prelude.{ℕ, ◌≤◌, ◌≡◌, List}
 use Rattle.paper.specs.Syntax.{Name}
 use Rattle.paper.specs.Store.{Store, Value, component}
-use Rattle.paper.specs.Layout.{Row, name_text, deepest}
+use Rattle.paper.specs.Layout.{name_text, deepest}
 use Rattle.rows.specs.View.{view, label_text}
 use Rattle.rows.specs.Search.{text_bytes}
 use Rattle.rows.specs.Flat.{flat, flat_value}

@@ -1,5 +1,5 @@
 -- The line of a refusal, `refused N at P`, from its number and its place. Assumes nothing.
-use Rattle.std.specs.Prelude.{ℕ, zero, suc, ◌+◌, ◌/◌, ◌%◌, ◌≡◌, Bool, true, false, List, [], ◌∷◌, ◌++◌, ltb, length}
+use Rattle.std.specs.Prelude.{ℕ, zero, suc, ◌+◌, ◌/◌, ◌%◌, ◌≡◌, true, false, List, [], ◌∷◌, ◌++◌, ltb, length}
 use Rattle.memory.specs.Memory.{stored}
 use Rattle.paper.specs.Bytes.{bytes}
 use Rattle.paper.specs.Tokens.{count}

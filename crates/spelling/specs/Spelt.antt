@@ -1,5 +1,5 @@
 -- A part of the source, and what a string token means, as the paper's answers. Assumes nothing.
-use Rattle.std.specs.Prelude.{ℕ, ◌+◌, ◌-◌, true, false, ◌&&◌, List, [], length, take, drop, leb}
+use Rattle.std.specs.Prelude.{ℕ, ◌+◌, ◌-◌, ◌&&◌, List, [], length, take, drop, leb}
 use Rattle.paper.specs.Bytes.{if◌then◌else◌}
 use Rattle.paper.specs.Syntax.{Basic, boolean, null, integer, decimal, string, reference, vector}
 use Rattle.paper.specs.Tokens.{name, literal, mark, end}

@@ -1,5 +1,6 @@
 // How tokens are spelt: a token's own part of the source, and the bytes that a string means.
 #![tactic(auto)]
+
 mod text;
 
 ghost use Rattle.std.specs.Prelude.{◌≡◌, ◌+◌, ◌<◌, leb, length};

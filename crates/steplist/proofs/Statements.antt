@@ -4,17 +4,17 @@ use Prim.Native.Nat.{ℕ, suc, ◌+◌, ◌≤◌, ◌<◌}
 use native.Mathlib.Omega.{arith}
 use native.Mathlib.Numerals.{add-one}
 use mathlib.Core.Path.{◌≡◌, refl, sym, ◌∙◌, ap}
-use mathlib.Core.Bool.{Bool, true, false, ◌&&◌, ◌||◌}
+use mathlib.Core.Bool.{Bool, true, false, ◌||◌}
 use mathlib.Core.List.{List}
 use mathlib.Core.Logic.{◌⊎◌, inl, inr, ⊎_elim}
 use mathlib.Core.Option.{Option, none, some}
 use lib.ListN.{length, length-drop}
 use lib.Dec.{leb, ltb, eqb}
-use borrow.Author.Tests.{leb-true, lt-ltb, le-ltb, le-leb, eq-eqb, ne_eqb}
+use borrow.Author.Tests.{leb-true, lt-ltb, le-ltb, le-leb, ne_eqb}
 use Rattle.paper.specs.Bytes.{if◌then◌else◌}
 use Rattle.paper.specs.Maybe.{◌>>=◌, require}
-use Rattle.paper.specs.Syntax.{Block, εᴮ, ◌∷ᴮ◌, assign, Value, Prototypes, εᴾ, block}
-use Rattle.paper.specs.Decoder.{Cursor, Raw, record_at, field, path_of}
+use Rattle.paper.specs.Syntax.{Block, εᴮ, ◌∷ᴮ◌, assign, Prototypes, εᴾ, block}
+use Rattle.paper.specs.Decoder.{Cursor, record_at, field, path_of}
 use Rattle.paper.specs.StepDecoder.{plain, bare, stops}
 use Rattle.theorems.proofs.Laws.DecodeAt.{Bytes, record_here, record_short}
 use Rattle.paper.specs.DecodeAt.{word, raw_at, cursor}

@@ -1,6 +1,6 @@
 -- The values of statements and the prototypes that are references: the paper's readers, one law for each way through the code.
 -- Assumes nothing.
-use Prim.Native.Nat.{ℕ, suc, ◌+◌, ◌-◌, ◌≤◌, ◌<◌}
+use Prim.Native.Nat.{ℕ, suc, ◌+◌, ◌≤◌, ◌<◌}
 use native.Mathlib.Omega.{arith}
 use native.Mathlib.Nat.{le_refl}
 use mathlib.Core.Path.{◌≡◌, refl, sym, ◌∙◌, ap}
@@ -8,20 +8,20 @@ use mathlib.Core.Bool.{Bool, true, false}
 use mathlib.Core.List.{List}
 use mathlib.Core.Logic.{◌⊎◌, inl, inr, ⊎_elim}
 use mathlib.Core.Option.{Option, none, some}
-use lib.ListN.{length, length-drop}
+use lib.ListN.{length}
 use lib.Dec.{eqb}
 use borrow.Author.Tests.{le-leb, lt-leb, eq-eqb, ne_eqb}
 use Rattle.paper.specs.Bytes.{if◌then◌else◌}
 use Rattle.paper.specs.Maybe.{◌>>=◌, require}
-use Rattle.paper.specs.Syntax.{Value, basic, link, extends, Prototypes, εᴾ, named, block}
+use Rattle.paper.specs.Syntax.{basic, link, extends, Prototypes, εᴾ, named}
 use Rattle.paper.specs.Decoder.{Cursor, Raw, record_at, field, path_of}
 use Rattle.paper.specs.StepDecoder.{in_steps, plain, bare, some_prototype}
 use Rattle.theorems.proofs.Laws.Answers.{if_case}
-use Rattle.theorems.proofs.Laws.Found.{Found, nothing, found, found_bind, found_require, found_some}
+use Rattle.theorems.proofs.Laws.Found.{Found, nothing, found, found_some}
 use Rattle.theorems.proofs.Laws.DecodeAt.{Bytes, record_here, record_short}
 use Rattle.paper.specs.DecodeAt.{word, raw_at, cursor}
 use Rattle.theorems.proofs.Laws.DecodeFree.{value_body, value_is, prototype_body, prototypes_is}
-use Rattle.paper.specs.DecodeFrom.{basic_from, statements_from, prototypes_from}
+use Rattle.paper.specs.DecodeFrom.{statements_from, prototypes_from}
 use Rattle.memory.specs.Memory.{word_at}
 use Rattle.memory.proofs.Laws.{fit, word_in}
 use Rattle.forms.specs.declared.form.Form.TheVariants.{Steps}

@@ -10,7 +10,6 @@ use Rattle.paper.specs.DecodeAt.{word, raw_at, cursor}
 use Rattle.paper.specs.DecodeFrom.{statements_from, value_from, prototypes_from}
 use Rattle.layout.specs.declared.walk.Walk.{Walk}
 use Rattle.layout.specs.declared.walk.Walk.TheVariants.{Walked, Wrong}
-use Rattle.layout.specs.Walk.{WalkIs}
 
 -- a reader found something, and has gone on by a record at least
 abbrev pub WalkOn : {A : Type 0} → Option (A × Cursor) → List ℕ → List ℕ → ℕ → Walk → Type 0

@@ -3,13 +3,10 @@ use Prim.Native.Nat.{ℕ, ◌≤◌, ◌<◌}
 use mathlib.Core.Path.{◌≡◌, refl, sym, ◌∙◌, ap}
 use mathlib.Core.Bool.{Bool, true, false, not}
 use mathlib.Core.List.{List}
-use mathlib.Core.Option.{Option, none, some}
-use lib.ListN.{length, drop, drop_of_length-le}
-use lib.Seq.{drop-cons}
-use Rattle.paper.specs.Scanner.{empty}
+use mathlib.Core.Option.{none, some}
+use lib.ListN.{length}
 use Rattle.paper.specs.Maybe.{◌>>=◌, require}
 use Rattle.paper.specs.Store.{Store}
-use Rattle.paper.specs.Decoder.{ended}
 use Rattle.paper.specs.TableDecoder.{in_table, absent, distinct, table_of}
 use Rattle.paper.specs.DecodeAt.{cursor}
 use Rattle.theorems.proofs.Laws.DecodeFree.{table_of_is}

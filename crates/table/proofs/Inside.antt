@@ -4,7 +4,7 @@ use native.Mathlib.Omega.{arith}
 use native.Mathlib.Nat.{add-zero}
 use mathlib.Core.Path.{◌≡◌, refl, sym, ◌∙◌, ap, subst}
 use mathlib.Core.Bool.{Bool, true, false}
-use mathlib.Core.List.{List, ◌∷◌, ◌++◌}
+use mathlib.Core.List.{List, ◌++◌}
 use mathlib.Core.Option.{Option, none, some}
 use lib.ListN.{length, take, drop, get_or, length-append, length-drop}
 use lib.Seq.{drop_at, drop-drop, take_at, get_or-drop}

@@ -5,7 +5,7 @@ use native.Mathlib.Omega.{arith}
 use native.Mathlib.Numerals.{add-one}
 use mathlib.Core.Path.{◌≡◌, ◌∙◌}
 use mathlib.Core.List.{List}
-use mathlib.Core.Option.{none, some}
+use mathlib.Core.Option.{none}
 use lib.ListN.{length}
 use borrow.Author.Tests.{eq-eqb, ne_eqb}
 use Rattle.paper.specs.Bytes.{if◌then◌else◌}
@@ -22,7 +22,7 @@ use Rattle.memory.proofs.Laws.{word_in}
 use Rattle.forms.specs.declared.form.Form.TheVariants.{Table}
 use Rattle.texts.specs.declared.Past.TheVariants.{At, Bad}
 use Rattle.layout.specs.declared.walk.Walk.{Walk}
-use Rattle.layout.specs.declared.walk.Walk.TheVariants.{Walked, Wrong}
+use Rattle.layout.specs.declared.walk.Walk.TheVariants.{Walked}
 use Rattle.forms.specs.Form.{form_of, size_of}
 use Rattle.layout.specs.Walk.{WalkIs, basic_here}
 use Rattle.layout.proofs.Heads.{basic_inside}

@@ -1,5 +1,6 @@
 // Tables: whether bytes are one, and a look into one.
 #![tactic(auto)]
+
 mod child;
 mod once;
 mod walk;

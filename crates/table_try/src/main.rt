@@ -2,6 +2,7 @@
 // input tells how many were tables and how many step lists, and a sum over all answers in turn, which the second implementation must have
 // told as well. Numbers are 32 bits, the lowest byte first: how many inputs, and of each 1 for changes or 0, its length and its bytes.
 #![tactic(auto)]
+
 ghost use Rattle.std.specs.Prelude.{◌≤◌};
 
 const STDIN_FILENO: i32 = 0;

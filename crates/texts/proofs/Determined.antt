@@ -36,9 +36,9 @@ determined =
     record {
       byte = λ _ _ _ _ _ _ _ _ g e f. cc;
       leaf = λ _ _ a a' r r' _ _ g e f.
-        found_one (leaf a.1.0 a.1.1.0) (leaf a'.1.0 a'.1.1.0) a.0.now a'.0.now a.1.1.1.0 a'.1.1.1.0 r r' e f (cc) (cc) (cc);
+          found_one (leaf a.1.0 a.1.1.0) (leaf a'.1.0 a'.1.1.0) a.0.now a'.0.now a.1.1.1.0 a'.1.1.1.0 r r' e f (cc) (cc) (cc);
       name_here = λ _ _ a a' r r' _ _ g e f.
-        found_one (field name_of a.1.0) (field name_of a'.1.0) a.0.now a'.0.now a.1.1.0 a'.1.1.0 r r' e f (cc) (cc) (cc);
+          found_one (field name_of a.1.0) (field name_of a'.1.0) a.0.now a'.0.now a.1.1.0 a'.1.1.0 r r' e f (cc) (cc) (cc);
       path_here = λ _ _ a a' r r' _ _ g e f.
-        found_one (field path_of a.1.0) (field path_of a'.1.0) a.0.now a'.0.now a.1.1.0 a'.1.1.0 r r' e f (cc) (cc) (cc);
+          found_one (field path_of a.1.0) (field path_of a'.1.0) a.0.now a'.0.now a.1.1.0 a'.1.1.0 r r' e f (cc) (cc) (cc);
     }

@@ -1,5 +1,6 @@
 // Texts: where one that begins at a place ends, if it is as it should be.
 #![tactic(auto)]
+
 ghost use Rattle.std.specs.Prelude.{◌≡◌, ◌+◌, ◌≤◌, ◌<◌, length, drop, get_or};
 ghost use Rattle.paper.specs.Decoder.{name_of, names_of, path_of, decimal_of, string_of};
 ghost use Rattle.paper.specs.DecodeAt.{word};

@@ -6,10 +6,9 @@ use mathlib.Core.Path.{◌≡◌, refl, ◌∙◌}
 use mathlib.Core.List.{List, [], ◌∷◌}
 use mathlib.Core.Logic.{◌⊎◌}
 use lib.IntN.{pos}
-use lib.ListN.{length, replicate}
 use lib.Dec.{lit≤}
 use Rattle.paper.specs.Bytes.{bytes}
-use Rattle.paper.specs.Answer.{ok, refused, ◌>>=◌}
+use Rattle.paper.specs.Answer.{ok, refused}
 use Rattle.paper.specs.Limits.{most_source, least_list, least_table, least_work}
 use Rattle.paper.specs.Syntax.{Block, εᴮ, ◌∷ᴮ◌, assign, link, integer}
 use Rattle.paper.specs.Tokens.{name}
@@ -17,16 +16,16 @@ use Rattle.paper.specs.Written.{Next, NoNext}
 use Rattle.paper.specs.Described.{Describes, Refused}
 use Rattle.paper.specs.Reader.{read}
 use Rattle.paper.specs.Store.{Store, ∅, basic}
-use Rattle.paper.specs.Meaning.{B⟦◌⟧, main}
+use Rattle.paper.specs.Meaning.{B⟦◌⟧}
 use Rattle.paper.specs.Layout.{table}
 use Rattle.paper.specs.WellFormed.{IsStore, IsTable, IsStepList, IsBounded}
-use Rattle.paper.specs.Lent.{Lent, Enough, LongWorks}
-use Rattle.paper.specs.Operations.{translate, translate_op, run_op, main_op, resolve_op}
+use Rattle.paper.specs.Lent.{Lent, Enough}
+use Rattle.paper.specs.Operations.{translate, resolve_op}
 use Rattle.paper.specs.Allowed.{Translates, Runs, TakesMain, Resolves, Evaluates}
 use Rattle.paper.proofs.Checked.{checked, ◌≔◌⨾◌, ◌≔⟨◌⟩⨾◌, thirteen, thirteen_table}
 use Rattle.theorems.proofs.Decoded.{decoded}
 use Rattle.theorems.proofs.Demands.{demands}
-use Rattle.theorems.proofs.Demands.Exact.{run_rest, main_rest, in_turn, translates_exactly, runs_exactly, takes_main_exactly, resolves_exactly, evaluates_exactly}
+use Rattle.theorems.proofs.Demands.Exact.{run_rest, main_rest, translates_exactly, runs_exactly, takes_main_exactly, resolves_exactly, evaluates_exactly}
 use Rattle.theorems.proofs.Legal.{legal}
 use Rattle.theorems.proofs.Legal.Bounds.{of_table}
 use Rattle.theorems.proofs.Legal.Read.{WellRead, Translated}

@@ -3,9 +3,9 @@ use mathlib.Core.Path.{◌≡◌, refl, ap, ap₂, ◌∙◌}
 use mathlib.Core.Bool.{Bool, true, false, ◌||◌, true≢false}
 use mathlib.Core.List.{List, [], ◌∷◌}
 use mathlib.Core.Option.{Option, none, some}
-use Prim.Native.Nat.{ℕ, suc, ◌+◌, ◌-◌, ◌≤◌, ◌<◌}
+use Prim.Native.Nat.{ℕ, suc, ◌+◌, ◌≤◌, ◌<◌}
 use native.Mathlib.Omega.{arith}
-use lib.ListN.{length, take, drop, length-drop}
+use lib.ListN.{length, take}
 use lib.Seq.{length-take-le}
 use lib.Dec.{leb}
 use borrow.Author.Tests.{eq-eqb, ne_eqb, le-leb, lt-leb, lt-ltb, le-ltb, not-true, not-false}
@@ -23,9 +23,8 @@ use Rattle.tokens.specs.declared.scan.Front.{Front}
 use Rattle.tokens.specs.declared.scan.Front.TheVariants.{Read, Fault}
 use Rattle.tokens.specs.Kinds.{word_from, literal_kind, kind_of}
 use Rattle.tokens.specs.Numbers.{number_len, integer_of}
-use Rattle.spelling.specs.Text.{quotes, quoted_of}
+use Rattle.spelling.specs.Text.{quoted_of}
 use Rattle.tokens.specs.Scans.{scan_of, numbered, ends_at, integer_front}
-use Rattle.spelling.proofs.Strings.{all_quotes}
 
 -- ---- names
 

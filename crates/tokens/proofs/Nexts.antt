@@ -1,11 +1,11 @@
 -- The next token, wherever the rest of the source stands: what `next_token` answers, said of the paper's `next`. Assumes nothing.
 use mathlib.Core.Path.{◌≡◌, refl, sym, ap, ap₂, ◌∙◌}
 use mathlib.Core.List.{List}
-use Prim.Native.Nat.{ℕ, ◌+◌, ◌-◌, ◌≤◌}
+use Prim.Native.Nat.{ℕ, ◌+◌, ◌≤◌}
 use native.Mathlib.Omega.{arith}
 use lib.ListN.{length, drop}
 use Rattle.paper.specs.Answer.{ok, refused, ◌>>=◌}
-use Rattle.paper.specs.Tokens.{Token, Here}
+use Rattle.paper.specs.Tokens.{Here}
 use Rattle.paper.specs.Scanner.{Scanned, token, fault, scan, found, next, past}
 use Rattle.tokens.specs.declared.gaps.Skipped.TheVariants.{To, Open}
 use Rattle.tokens.specs.declared.Kind.{Kind}

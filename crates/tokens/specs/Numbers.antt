@@ -1,5 +1,5 @@
 -- What the code answers of numbers, as the paper's answers. Assumes nothing.
-use Rattle.std.specs.Prelude.{ℕ, zero, suc, ◌+◌, ◌-◌, ◌^◌, ◌≤◌, ◌<◌, true, false, List, length, drop, get_or, leb, ℤ, pos, neg_ℤ}
+use Rattle.std.specs.Prelude.{ℕ, ◌+◌, ◌≤◌, ◌<◌, List, length, drop, get_or, leb, ℤ, pos, neg_ℤ}
 use Rattle.paper.specs.Bytes.{if◌then◌else◌}
 use Rattle.paper.specs.Tokens.{in_range}
 use Rattle.paper.specs.Scanner.{fraction, exponent}

@@ -1,5 +1,6 @@
 // One token from the rest of the source.
 #![tactic(auto)]
+
 mod class;
 mod gaps;
 mod names;

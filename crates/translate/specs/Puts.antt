@@ -1,6 +1,6 @@
 -- The contracts of those who write a step list. Assumes nothing.
-use Rattle.std.specs.Prelude.{ℕ, suc, ◌+◌, ◌*◌, ◌-◌, ◌≤◌, ◌<◌, ◌≡◌, Bool, true, false, eqb, List, [], ◌∷◌, ◌++◌, length, take, drop}
-use Rattle.paper.specs.Answer.{Answer, ok}
+use Rattle.std.specs.Prelude.{ℕ, ◌+◌, ◌*◌, ◌-◌, ◌≤◌, ◌<◌, ◌≡◌, Bool, true, false, eqb, List, ◌++◌, length, take, drop}
+use Rattle.paper.specs.Answer.{ok}
 use Rattle.paper.specs.Tokens.{Token, name, Here, is_name, is_mark}
 use Rattle.paper.specs.Scanner.{next}
 use Rattle.paper.specs.Layout.{name_text, path_text, long_text, text_of, row_text, texts, laid_out}

@@ -1,13 +1,12 @@
 -- The row that a draft stands for: its texts read again from the source. Assumes nothing.
-use Rattle.std.specs.Prelude.{ℕ, zero, suc, ◌+◌, ◌*◌, ◌≤◌, ◌<◌, ◌≡◌, Bool, true, false, ◌||◌, List, [], ◌∷◌, ◌++◌, length, drop, eqb}
+use Rattle.std.specs.Prelude.{ℕ, zero, suc, ◌+◌, ◌*◌, ◌≡◌, Bool, true, false, ◌||◌, List, [], ◌∷◌, ◌++◌, drop, eqb}
 use Rattle.paper.specs.Bytes.{if◌then◌else◌}
 use Rattle.paper.specs.Answer.{Answer, ok, refused}
 use Rattle.paper.specs.Syntax.{Path, Basic, boolean, null, integer, decimal, string, reference, vector}
-use Rattle.paper.specs.Tokens.{Token, name, literal, mark, end, Here}
+use Rattle.paper.specs.Tokens.{name, literal, mark, end, Here}
 use Rattle.paper.specs.Scanner.{Scanned, token, fault, scan}
 use Rattle.paper.specs.Reader.{path}
-use Rattle.paper.specs.Layout.{Field, number, text, Row, little, path_text, long_text, text_of, row_text, figure}
-use Rattle.paper.specs.StepLayout.{step_row}
+use Rattle.paper.specs.Layout.{Field, number, text, Row, little, path_text, long_text}
 use Rattle.memory.specs.Memory.{word_at}
 use Rattle.grammar.specs.Places.{here}
 use Rattle.grammar.specs.Ties.{Reads, has_path, is_path}

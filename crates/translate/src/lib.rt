@@ -1,5 +1,6 @@
 // Operation 1: from a description to its step list.
 #![tactic(auto)]
+
 mod answer;
 mod list;
 mod path;

@@ -1,15 +1,14 @@
 -- Laws of a reader's answers: one reader after another. Assumes nothing.
-use Prim.Native.Nat.{ℕ, zero, suc, ◌+◌, ◌*◌, ◌-◌, ◌≤◌, ◌<◌}
+use Prim.Native.Nat.{ℕ, zero, suc, ◌+◌, ◌*◌, ◌≤◌, ◌<◌}
 use native.Mathlib.Omega.{arith}
-use mathlib.Core.Path.{◌≡◌, refl, sym, ap, ◌∙◌}
-use mathlib.Core.List.{List, [], ◌∷◌, ◌++◌}
+use mathlib.Core.Path.{◌≡◌, sym, ap, ◌∙◌}
+use mathlib.Core.List.{List, ◌++◌}
 use lib.ListN.{length, length-append}
-use Rattle.paper.specs.Answer.{Answer, ok, refused, ◌>>=◌}
+use Rattle.paper.specs.Answer.{Answer, ok, ◌>>=◌}
 use Rattle.paper.specs.Tokens.{Here}
 use Rattle.grammar.specs.Drafts.{Draft, text_size}
-use Rattle.grammar.specs.Places.{here}
 use Rattle.grammar.specs.Puts.{puts, Frame}
-use Rattle.grammar.specs.Went.{DoneIs, RefusedIs, Answers, AheadIs, Ahead}
+use Rattle.grammar.specs.Went.{Answers, AheadIs, Ahead}
 use Rattle.grammar.specs.declared.cursor.Cursor.{Cursor}
 use Rattle.grammar.specs.declared.cursor.Went.{Went}
 use Rattle.grammar.specs.declared.cursor.Went.TheVariants.{Done, Refused}

@@ -1,25 +1,22 @@
 -- What a basic begins with: the rules of its readers. Assumes nothing.
-use Prim.Native.Nat.{ℕ, suc, ◌+◌, ◌-◌, ◌*◌, ◌≤◌, ◌<◌}
+use Prim.Native.Nat.{ℕ, suc, ◌+◌, ◌-◌}
 use native.Mathlib.Omega.{arith}
-use mathlib.Core.Path.{◌≡◌, refl, sym, ap, ◌∙◌}
+use mathlib.Core.Path.{◌≡◌, refl}
 use mathlib.Core.Bool.{Bool, true, false, not, ◌||◌, false≢true}
 use mathlib.Core.List.{List}
 use lib.ListN.{length}
-use borrow.Author.Tests.{ne_eqb}
 use Rattle.paper.specs.Bytes.{bytes, if◌then◌else◌}
-use Rattle.paper.specs.Answer.{Answer, ok, refused, ◌>>=◌, demand}
-use Rattle.paper.specs.Tokens.{Token, name, literal, mark, end, is_name, is_mark, member, reserved, Here}
+use Rattle.paper.specs.Answer.{refused, ◌>>=◌}
+use Rattle.paper.specs.Tokens.{Token, name, mark, end, is_name, member, reserved}
 use Rattle.paper.specs.Scanner.{next}
-use Rattle.paper.specs.Reader.{expect, path, is_word}
-use Rattle.paper.specs.Layout.{path_text}
-use Rattle.grammar.specs.Drafts.{Drafted, one, draft_word, draft_literal, draft_basic}
+use Rattle.paper.specs.Reader.{path, is_word}
+use Rattle.grammar.specs.Drafts.{draft_word, draft_literal, draft_basic}
 use Rattle.grammar.specs.Places.{here, Shown, Stood}
-use Rattle.grammar.specs.Seen.{NameSeen, OtherSeen, IntegerSeen, DecimalSeen, TextSeen}
+use Rattle.grammar.specs.Seen.{OtherSeen, IntegerSeen, DecimalSeen, TextSeen}
 use Rattle.grammar.specs.Paths.{PathSeen}
-use Rattle.grammar.specs.Basics.{laid_of, laid_size, rest_vector, rest_laid, BasicFound}
-use Rattle.grammar.specs.declared.basic.Basic.{Basic}
+use Rattle.grammar.specs.Basics.{rest_vector, BasicFound}
 use Rattle.grammar.specs.declared.basic.Basic.TheVariants.{Boolean, Null, Integer, Decimal, Text, Data, Vector}
-use Rattle.grammar.proofs.Rules.Marks.{stands, expected, missing_mark}
+use Rattle.grammar.proofs.Rules.Marks.{expected, missing_mark}
 
 -- a token that is none of the words that something begins with
 pub record NoWord (t : Token) : Type 0 where

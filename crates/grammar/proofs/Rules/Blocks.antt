@@ -1,5 +1,5 @@
 -- Blocks and prototype lists: the rules of their readers. Assumes nothing.
-use Prim.Native.Nat.{ℕ, suc, ◌+◌, ◌*◌, ◌-◌, ◌≤◌, ◌<◌}
+use Prim.Native.Nat.{ℕ, suc, ◌+◌, ◌-◌, ◌≤◌}
 use Prim.Native.Char.{Char, code}
 use native.Mathlib.Omega.{arith}
 use native.Mathlib.Numerals.{add-one}
@@ -11,9 +11,9 @@ use lib.ListN.{length, length-append}
 use borrow.Author.Tests.{lt-ltb}
 use Rattle.paper.specs.Bytes.{if◌then◌else◌}
 use Rattle.paper.specs.Answer.{Answer, ok, refused, ◌>>=◌, demand}
-use Rattle.paper.specs.Tokens.{Token, Here, mark, is_mark, is_name}
+use Rattle.paper.specs.Tokens.{Here, mark, is_mark}
 use Rattle.paper.specs.Scanner.{next}
-use Rattle.paper.specs.Reader.{expect, path}
+use Rattle.paper.specs.Reader.{expect}
 use Rattle.paper.specs.Layout.{path_text}
 use Rattle.theorems.proofs.Laws.Answers.{assoc, under}
 use Rattle.grammar.specs.Drafts.{Draft, draft, take_draft, bare_draft, draft_statements, draft_prototypes, text_size}
@@ -21,7 +21,7 @@ use Rattle.grammar.specs.Places.{here, Shown}
 use Rattle.grammar.specs.Seen.{NotMark}
 use Rattle.grammar.specs.Paths.{RefSeen, NoName, RefFault, no_token, no_path}
 use Rattle.grammar.specs.Puts.{path_row, put_row, puts, Frame}
-use Rattle.grammar.specs.Went.{PassIs, Answers, AheadIs, Ahead}
+use Rattle.grammar.specs.Went.{PassIs, Answers}
 use Rattle.grammar.specs.Readers.{Fit, itself, StatementsRead, PrototypesRead, draft_block, BlockRead}
 use Rattle.grammar.specs.declared.cursor.Cursor.{Cursor}
 use Rattle.grammar.specs.declared.cursor.Went.{Went}

@@ -1,27 +1,25 @@
 -- Basics and items: the rules of the readers that call one another. Assumes nothing.
-use Prim.Native.Nat.{ℕ, suc, ◌+◌, ◌*◌, ◌-◌, ◌≤◌, ◌<◌}
-use Prim.Native.Char.{Char, code}
+use Prim.Native.Nat.{ℕ, suc, ◌+◌, ◌-◌, ◌≤◌}
 use native.Mathlib.Omega.{arith}
 use native.Mathlib.Nat.{zero-add}
 use native.Mathlib.Numerals.{add-one}
-use mathlib.Core.Path.{◌≡◌, refl, sym, ap, ◌∙◌}
-use mathlib.Core.Bool.{true, false}
+use mathlib.Core.Path.{◌≡◌, refl, ap, ◌∙◌}
+use mathlib.Core.Bool.{true}
 use mathlib.Core.List.{List, [], ◌∷◌, ◌++◌}
 use lib.Dec.{ltb}
 use lib.ListN.{length}
 use borrow.Author.Tests.{lt-ltb}
 use Rattle.paper.specs.Bytes.{if◌then◌else◌}
-use Rattle.paper.specs.Answer.{Answer, ok, refused, ◌>>=◌, demand}
-use Rattle.paper.specs.Tokens.{Here, mark, is_mark}
+use Rattle.paper.specs.Answer.{refused, ◌>>=◌, demand}
+use Rattle.paper.specs.Tokens.{mark, is_mark}
 use Rattle.paper.specs.Scanner.{next}
-use Rattle.paper.specs.Reader.{expect}
 use Rattle.grammar.specs.Drafts.{Draft, Drafted, draft, one, several, item_draft, draft_basic, draft_basics, text_size}
 use Rattle.grammar.specs.Places.{here, Shown}
 use Rattle.grammar.specs.Seen.{NotMark}
-use Rattle.grammar.specs.Basics.{laid_of, laid_size, rest_vector, rest_laid, BasicFound}
+use Rattle.grammar.specs.Basics.{laid_of, laid_size, rest_vector, BasicFound}
 use Rattle.grammar.specs.Puts.{put_row, puts, Frame}
 use Rattle.grammar.specs.Went.{PassIs, Answers, AheadIs}
-use Rattle.grammar.specs.Readers.{Fit, FitMore, FitBasic, itself, own_row, own_drafts, BasicRead, ItemsRead}
+use Rattle.grammar.specs.Readers.{Fit, FitBasic, itself, own_row, own_drafts, BasicRead, ItemsRead}
 use Rattle.grammar.specs.declared.basic.Basic.{Basic}
 use Rattle.grammar.specs.declared.basic.Laid.TheVariants.{Plain, Opened}
 use Rattle.grammar.specs.declared.cursor.Cursor.{Cursor}

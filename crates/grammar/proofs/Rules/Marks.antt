@@ -1,15 +1,14 @@
 -- What single tokens are not, and what a mark is. Assumes nothing.
 use Prim.Native.Nat.{ℕ}
 use Prim.Native.Char.{Char, code}
-use native.Mathlib.Omega.{arith}
 use mathlib.Core.Path.{◌≡◌, refl, sym, ◌∙◌}
-use mathlib.Core.Bool.{true, false}
+use mathlib.Core.Bool.{false}
 use mathlib.Core.List.{List}
 use borrow.Author.Tests.{eq-eqb, ne_eqb}
 use Rattle.paper.specs.Answer.{refused, ok, ◌>>=◌, demand}
-use Rattle.paper.specs.Tokens.{Token, name, literal, mark, end, is_name, is_mark, member, reserved}
+use Rattle.paper.specs.Tokens.{Token, name, mark, end, is_name, is_mark, member, reserved}
 use Rattle.paper.specs.Scanner.{next}
-use Rattle.paper.specs.Reader.{expect, is_word}
+use Rattle.paper.specs.Reader.{expect}
 use Rattle.grammar.specs.Places.{here, Shown, Stood}
 use Rattle.grammar.specs.Seen.{NameSeen, WordIs, LiteralIs, SeenIs, NotMark}
 use Rattle.grammar.specs.Paths.{NoName}

@@ -1,22 +1,21 @@
 -- References: the rules of their readers. Assumes nothing.
-use Prim.Native.Nat.{ℕ, zero, suc, ◌+◌, ◌-◌, ◌≤◌, ◌<◌}
+use Prim.Native.Nat.{ℕ, zero, suc, ◌+◌, ◌-◌, ◌≤◌}
 use native.Mathlib.Omega.{arith}
-use mathlib.Core.Path.{◌≡◌, refl, sym, ap, ◌∙◌, subst}
-use mathlib.Core.Bool.{true, false}
-use mathlib.Core.List.{List, [], ◌∷◌, ◌++◌, append-nil}
+use mathlib.Core.Path.{◌≡◌, refl, sym, subst}
+use mathlib.Core.List.{List, [], ◌∷◌}
 use lib.ListN.{length, length-append}
 use Rattle.paper.specs.Bytes.{if◌then◌else◌}
-use Rattle.paper.specs.Answer.{ok, refused, ◌>>=◌, demand}
-use Rattle.paper.specs.Tokens.{mark, is_mark, is_name, name}
+use Rattle.paper.specs.Answer.{refused, ◌>>=◌, demand}
+use Rattle.paper.specs.Tokens.{mark, is_mark}
 use Rattle.paper.specs.Scanner.{next}
 use Rattle.paper.specs.Reader.{names, path, spelling}
 use Rattle.paper.specs.Layout.{path_text, names_text, name_text}
-use Rattle.grammar.specs.Places.{here, Shown, Stood}
+use Rattle.grammar.specs.Places.{here, Shown}
 use Rattle.grammar.specs.Seen.{NameSeen, NotMark}
-use Rattle.grammar.specs.Paths.{NamesSeen, NamesIs, PathIs, RefFault, no_token, no_path, RefSeen, PathSeen}
+use Rattle.grammar.specs.Paths.{NamesIs, PathIs}
 use Rattle.grammar.specs.declared.path.Path.{Path as Read}
 use Rattle.grammar.specs.declared.path.Path.TheVariants.{Whole, Broken}
-use Rattle.grammar.proofs.Rules.Marks.{Unnamed, stands, expected}
+use Rattle.grammar.proofs.Rules.Marks.{Unnamed, expected}
 
 pub names_unnamed : {s : List ℕ} {at p : ℕ} → Unnamed s at p → (k : ℕ) → names k (here s at) ≡ refused 3 p
 unfolding names ◌>>=◌ demand

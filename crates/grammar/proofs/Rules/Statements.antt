@@ -1,21 +1,20 @@
 -- Statements and their values: the rules of their readers. Assumes nothing.
-use Prim.Native.Nat.{ℕ, suc, ◌+◌, ◌*◌, ◌-◌, ◌≤◌, ◌<◌}
+use Prim.Native.Nat.{ℕ, suc, ◌+◌, ◌≤◌}
 use native.Mathlib.Omega.{arith}
-use mathlib.Core.Path.{◌≡◌, refl, sym, ap, ◌∙◌}
-use mathlib.Core.Bool.{true, false}
+use mathlib.Core.Path.{◌≡◌, refl, ◌∙◌}
 use mathlib.Core.List.{List, [], ◌∷◌, ◌++◌}
 use lib.ListN.{length}
 use Rattle.paper.specs.Bytes.{if◌then◌else◌}
-use Rattle.paper.specs.Answer.{Answer, ok, refused, ◌>>=◌, demand}
+use Rattle.paper.specs.Answer.{Answer, refused, ◌>>=◌}
 use Rattle.paper.specs.Tokens.{Here}
-use Rattle.paper.specs.Layout.{number, path_text}
+use Rattle.paper.specs.Layout.{number}
 use Rattle.paper.specs.StepLayout.{step_row}
 use Rattle.grammar.specs.Drafts.{Draft, draft, set_draft, make_draft, bare_draft, link_draft, draft_value, draft_statements, text_size}
 use Rattle.grammar.specs.Places.{here}
 use Rattle.grammar.specs.Paths.{RefSeen, NoName, RefFault, no_token, no_path}
 use Rattle.grammar.specs.Values.{rest_value, ValueFound}
 use Rattle.grammar.specs.Puts.{path_row, put_row, puts, Frame}
-use Rattle.grammar.specs.Went.{PassIs, Answers, AheadIs}
+use Rattle.grammar.specs.Went.{PassIs, Answers}
 use Rattle.grammar.specs.Readers.{Fit, itself, own_drafts, BasicRead, ValueRead, LinkRead, PrototypesRead, StatementsRead}
 use Rattle.grammar.specs.declared.basic.Basic.{Basic as Data}
 use Rattle.grammar.specs.declared.value.Value.TheVariants.{Basic, Link, Extends}

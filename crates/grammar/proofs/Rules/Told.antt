@@ -1,24 +1,24 @@
 -- From what `next_token` answers to what is seen at a place of the source. Assumes nothing.
 use Prim.Native.Nat.{ℕ, zero, suc, ◌+◌, ◌-◌, ◌≤◌, ◌<◌}
 use native.Mathlib.Omega.{arith}
-use mathlib.Core.Path.{◌≡◌, refl, sym, ap, ◌∙◌, subst}
+use mathlib.Core.Path.{◌≡◌, refl, ap, ◌∙◌, subst}
 use mathlib.Core.Bool.{Bool, true, false}
 use mathlib.Core.List.{List, [], ◌∷◌}
 use mathlib.Core.Option.{Option, none, some}
 use lib.Dec.{eqb, lit<}
 use lib.ListN.{length, take, drop, get_or}
-use borrow.Author.Tests.{eqb-true, eq-eqb, ne_eqb}
-use Rattle.paper.specs.Bytes.{at, is, bytes, if◌then◌else◌}
-use Rattle.paper.specs.Answer.{Answer, ok, refused, ◌>>=◌, demand}
-use Rattle.paper.specs.Syntax.{integer, decimal, string}
-use Rattle.paper.specs.Tokens.{Token, name, literal, mark, end, escaped, reserved, Here}
+use borrow.Author.Tests.{eqb-true, ne_eqb}
+use Rattle.paper.specs.Bytes.{at, is, if◌then◌else◌}
+use Rattle.paper.specs.Answer.{ok, refused, ◌>>=◌, demand}
+use Rattle.paper.specs.Syntax.{string}
+use Rattle.paper.specs.Tokens.{Token, name, literal, mark, end, escaped, reserved}
 use Rattle.paper.specs.Reader.{is_end}
-use Rattle.paper.specs.Scanner.{Scanned, token, fault, meant, quoted, text, named, number, scan, next}
+use Rattle.paper.specs.Scanner.{Scanned, token, meant, quoted, text, named, number, scan, next}
 use Rattle.theorems.proofs.Laws.Answers.{if_case}
 use Rattle.tokens.specs.declared.Kind.{Kind}
 use Rattle.tokens.specs.declared.Kind.TheVariants.{Name, Word, Integer, Decimal, Text, Mark, End}
 use Rattle.tokens.specs.declared.Token.{Token as Answered}
-use Rattle.tokens.specs.declared.Token.TheVariants.{Found, Refused}
+use Rattle.tokens.specs.declared.Token.TheVariants.{Found}
 use Rattle.tokens.specs.Shown.{shown}
 use Rattle.spelling.specs.Spelt.{text_of}
 use Rattle.spelling.proofs.At.{rest}

@@ -1,18 +1,17 @@
 -- What a value begins with: the rules of its readers. Assumes nothing.
-use Prim.Native.Nat.{ℕ, suc, ◌+◌, ◌*◌, ◌≤◌, ◌<◌}
+use Prim.Native.Nat.{ℕ, suc, ◌≤◌}
 use native.Mathlib.Omega.{arith}
-use mathlib.Core.Path.{◌≡◌, refl, sym, ap, ◌∙◌}
-use mathlib.Core.Bool.{true, false}
+use mathlib.Core.Path.{◌≡◌, refl}
 use mathlib.Core.List.{List}
 use lib.ListN.{length}
 use Rattle.paper.specs.Bytes.{bytes, if◌then◌else◌}
-use Rattle.paper.specs.Answer.{ok, refused, ◌>>=◌, demand}
-use Rattle.paper.specs.Tokens.{Token, name, literal, mark, end, is_name, member, reserved}
+use Rattle.paper.specs.Answer.{refused, ◌>>=◌, demand}
+use Rattle.paper.specs.Tokens.{name, mark, end, is_name, member, reserved}
 use Rattle.paper.specs.Scanner.{next}
 use Rattle.paper.specs.Reader.{expect_word, path, is_word}
 use Rattle.grammar.specs.Drafts.{draft_basic, draft_value}
 use Rattle.grammar.specs.Places.{here, Shown, Stood}
-use Rattle.grammar.specs.Seen.{NameSeen, WordIs, LiteralIs, SeenIs, OtherSeen}
+use Rattle.grammar.specs.Seen.{NameSeen, LiteralIs, SeenIs, OtherSeen}
 use Rattle.grammar.specs.Paths.{PathSeen}
 use Rattle.grammar.specs.Basics.{BasicFound}
 use Rattle.grammar.specs.Values.{Neither, NamedAt, rest_value, ValueFound}
@@ -23,7 +22,7 @@ use Rattle.grammar.specs.declared.token.Literal.TheVariants.{Integer, Decimal, T
 use Rattle.grammar.specs.declared.token.Seen.{Seen}
 use Rattle.grammar.specs.declared.token.Seen.TheVariants.{Written}
 use Rattle.grammar.proofs.Rules.Marks.{stands}
-use Rattle.grammar.proofs.Rules.Basics.{free_word, other_word}
+use Rattle.grammar.proofs.Rules.Basics.{free_word}
 
 module _ (s : List ℕ) (at : ℕ) where
   pub extends_value : (p e : ℕ) → Shown s at (name (bytes "extends")) p e → ValueFound s at Extends e

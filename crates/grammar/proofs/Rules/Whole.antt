@@ -1,8 +1,7 @@
 -- The whole description: the rules of its reader. Assumes nothing.
 use Prim.Native.Nat.{ℕ, ◌+◌, ◌*◌, ◌≤◌, ◌<◌}
 use native.Mathlib.Omega.{arith}
-use mathlib.Core.Path.{◌≡◌, refl, sym, ap, ◌∙◌}
-use mathlib.Core.Bool.{true, false}
+use mathlib.Core.Path.{◌≡◌, sym, ap, ◌∙◌}
 use mathlib.Core.List.{List, ◌++◌}
 use lib.ListN.{length, drop, length-append, length-drop}
 use lib.Seq.{drop-drop, drop_at}
@@ -16,7 +15,7 @@ use Rattle.paper.specs.Lent.{zeros, wiped}
 use Rattle.theorems.proofs.Laws.Answers.{assoc}
 use Rattle.memory.specs.Memory.{stored}
 use Rattle.memory.proofs.Laws.{clear_wiped, length_zeros}
-use Rattle.grammar.specs.Drafts.{Draft, draft_statements, drafts, text_size}
+use Rattle.grammar.specs.Drafts.{Draft, drafts}
 use Rattle.grammar.specs.Places.{here}
 use Rattle.grammar.specs.Seen.{ends}
 use Rattle.grammar.specs.Puts.{puts, Frame}

@@ -1,5 +1,5 @@
 -- What is found from a place of the source stands at a place of the source, and is found again from where it stands. Assumes nothing.
-use Prim.Native.Nat.{ℕ, zero, suc, ◌+◌, ◌-◌, ◌≤◌}
+use Prim.Native.Nat.{ℕ, zero, suc, ◌+◌, ◌≤◌}
 use Prim.Native.Char.{Char}
 use Prim.Native.String.{String}
 use native.Mathlib.Omega.{arith}
@@ -12,7 +12,7 @@ use lib.IntN.{ℤ}
 use Rattle.paper.specs.Bytes.{if◌then◌else◌}
 use Rattle.paper.specs.Answer.{Answer, ok, refused, ◌>>=◌}
 use Rattle.paper.specs.Syntax.{Path, Basic, integer, decimal, string}
-use Rattle.paper.specs.Tokens.{Token, name, literal, mark, end, blank, Here}
+use Rattle.paper.specs.Tokens.{Token, literal, blank, Here}
 use Rattle.paper.specs.Scanner.{Scanned, token, fault, gap, skip, scan, found, next, past}
 use Rattle.paper.specs.Reader.{expect, expect_word, names, path}
 use Rattle.theorems.proofs.Laws.Answers.{if_case}

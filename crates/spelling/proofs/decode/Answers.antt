@@ -7,7 +7,6 @@ use Prim.Native.Nat.{ℕ, ◌+◌}
 use borrow.Author.Tests.{not-true, not-false, leb-true}
 use lib.ListN.{length, drop}
 use lib.Dec.{leb}
-use Rattle.paper.specs.Bytes.{at}
 use Rattle.paper.specs.Scanner.{scan, text}
 use Rattle.spelling.specs.Text.{quotes, is_closed, text_in, put}
 use Rattle.spelling.specs.Spelt.{text_of, Decoded}

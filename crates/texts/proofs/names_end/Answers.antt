@@ -1,5 +1,4 @@
 -- `texts::names_end` meets its contract: whatever is read from here on gives, with the names passed, what is read from the start. Assumes nothing.
-use Prim.Native.Nat.{◌-◌}
 use mathlib.Core.Path.{◌≡◌}
 use native.Mathlib.Omega.{arith}
 use Rattle.texts.specs.declared.Past.TheVariants.{At, Bad}

@@ -1,4 +1,4 @@
-use Prim.Native.Nat.{◌≤◌, ◌-◌}
+use Prim.Native.Nat.{◌≤◌}
 use lib.ListN.{length, drop}
 use Rattle.paper.specs.Decoder.{names_of}
 use Rattle.texts.specs.declared.Past.{Past}

@@ -12,7 +12,7 @@ use borrow.Author.Tests.{leb-true, eqb-true, eqb-false, le-leb, eq-eqb, ne_eqb}
 use Rattle.paper.specs.Bytes.{if◌then◌else◌}
 use Rattle.paper.specs.Maybe.{◌>>=◌, require}
 use Rattle.paper.specs.Syntax.{Basic, boolean, null, integer, decimal, string, reference, vector, Basics, εⱽ, ◌∷ⱽ◌}
-use Rattle.paper.specs.Layout.{Field, text, Row, kind, content, elements, each, text_of, figure, row_text, row_bytes, texts, records}
+use Rattle.paper.specs.Layout.{Field, Row, kind, content, elements, each, text_of, figure, row_text, row_bytes, texts, records}
 use Rattle.paper.specs.WellFormed.{IsBasic, AreBasic}
 use Rattle.paper.specs.Decoder.{Cursor, Raw, record_at, field, leaf, Form, basic_at, elements_at}
 use Rattle.theorems.proofs.Decoded.Parts.{Exact, exact_path, exact_decimal, exact_string, exact_raw, raw_bytes, Narrow, signed_range, signed_complement, complement_signed, complement_below}

@@ -1,5 +1,5 @@
 -- Step lists are read exactly: `block_of b` is the block whose step list b is, and nothing where there is none. Assumes nothing.
-use Prim.Native.Nat.{ℕ, zero, suc, ◌+◌, ◌*◌, ◌-◌, ◌^◌, ◌≤◌, ◌<◌}
+use Prim.Native.Nat.{ℕ, zero, suc, ◌+◌, ◌*◌, ◌^◌, ◌≤◌, ◌<◌}
 use native.Mathlib.Omega.{arith}
 use native.Mathlib.Nat.{add-zero}
 use mathlib.Core.Path.{◌≡◌, refl, sym, ◌∙◌, ap, subst}
@@ -14,7 +14,7 @@ use Rattle.paper.specs.Bytes.{if◌then◌else◌}
 use Rattle.paper.specs.Maybe.{◌>>=◌, require}
 use Rattle.paper.specs.Syntax.{Path, Basic, boolean, null, integer, decimal, string, reference, vector, Basics, εⱽ, ◌∷ⱽ◌, Block, εᴮ, ◌∷ᴮ◌, assign, Value, basic, link, extends, Prototypes, εᴾ, named, block}
 use Rattle.paper.specs.Grammar.{brackets, brackets_in, openings, openings_v, openings_p, Some}
-use Rattle.paper.specs.Layout.{little, path_text, Field, number, text, Row, kind, content, elements, each, text_of, figure, row_bytes, texts, records, laid_out}
+use Rattle.paper.specs.Layout.{little, path_text, Field, number, text, Row, kind, content, elements, each, text_of, figure, row_bytes, texts, records}
 use Rattle.paper.specs.Steps.{Step, make, take, enter, leave, done, set, steps, value_steps, prototype_steps}
 use Rattle.paper.specs.StepLayout.{step_row, item, step_rows, all_rows, step_list}
 use Rattle.paper.specs.WellFormed.{IsPath, IsPlace, IsBlock, IsValueOf, ArePrototypes, IsStepList}

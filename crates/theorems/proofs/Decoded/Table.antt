@@ -14,7 +14,7 @@ use Rattle.paper.specs.Bytes.{if◌then◌else◌}
 use Rattle.paper.specs.Maybe.{◌>>=◌, require}
 use Rattle.paper.specs.Syntax.{Name, Basic, boolean, null, integer, decimal, string, reference, vector, Basics, εⱽ, ◌∷ⱽ◌}
 use Rattle.paper.specs.Store.{Store, ∅, entry, Value, basic, component, lookup}
-use Rattle.paper.specs.Layout.{little, name_text, Field, number, text, Row, kind, content, elements, each, table_row, rows, value_rows, text_of, figure, row_bytes, texts, records, laid_out, table, deepest}
+use Rattle.paper.specs.Layout.{little, name_text, Field, number, text, Row, kind, content, elements, each, table_row, rows, value_rows, text_of, figure, row_bytes, texts, records, table, deepest}
 use Rattle.paper.specs.WellFormed.{IsName, IsBasic, IsStore, IsValue, IsTable}
 use Rattle.paper.specs.Decoder.{Cursor, Raw, basic_at}
 use Rattle.paper.specs.TableDecoder.{in_table, entries_at, absent, distinct, distinct_in, table_of}

@@ -2,7 +2,7 @@
 -- then run. Assumes nothing.
 use Prim.Native.Nat.{ℕ}
 use native.Mathlib.Omega.{arith}
-use mathlib.Core.Path.{◌≡◌, refl, sym, ◌∙◌, ap, subst}
+use mathlib.Core.Path.{◌≡◌, refl, ◌∙◌, ap, subst}
 use mathlib.Core.Bool.{Bool, true, false}
 use mathlib.Core.List.{List, []}
 use mathlib.Core.Option.{Option, none, some}
@@ -28,7 +28,6 @@ use Rattle.paper.specs.Operations.{translated, executed, resolved, translate, re
 use Rattle.paper.specs.Allowed.{Accepts, Translates, Runs, TakesMain, Resolves, Evaluates}
 use Rattle.theorems.proofs.Compiled.{compiled}
 use Rattle.theorems.proofs.Decoded.{decoded}
-use Rattle.theorems.proofs.Laws.Answers.{assoc}
 use Rattle.theorems.proofs.Legal.Read.{read_well}
 use Rattle.theorems.proofs.ReadExactly.{read_exactly}
 

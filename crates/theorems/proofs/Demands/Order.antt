@@ -9,11 +9,10 @@ use mathlib.Core.Logic.{◌↔◌}
 use lib.ListN.{length}
 use lib.Dec.{leb}
 use borrow.Author.Tests.{leb-true, leb-false}
-use Rattle.paper.specs.Answer.{Answer, ok, refused, ◌>>=◌, demand}
+use Rattle.paper.specs.Answer.{Answer, refused, ◌>>=◌, demand}
 use Rattle.paper.specs.Limits.{least_list, least_table, least_work}
 use Rattle.paper.specs.Syntax.{Block}
 use Rattle.paper.specs.Store.{Store}
-use Rattle.paper.specs.Meaning.{B⟦◌⟧, main}
 use Rattle.paper.specs.WellFormed.{IsTable, IsStepList}
 use Rattle.paper.specs.Lent.{LongWorks, Enough, Lent, too_short}
 use Rattle.paper.specs.Operations.{translate, resolve, translate_op, run_op, main_op, resolve_op}

@@ -1,6 +1,6 @@
 -- The readers by index, as code has it: the records and the text are two slices of bytes, and a reader stands at a place in each.
 -- Assumes nothing.
-use Prim.Native.Nat.{ℕ, zero, suc, ◌+◌, ◌*◌, ◌-◌, ◌≤◌, ◌<◌}
+use Prim.Native.Nat.{ℕ, zero, suc, ◌+◌, ◌-◌, ◌≤◌, ◌<◌}
 use native.Mathlib.Omega.{arith}
 use mathlib.Core.Path.{◌≡◌, refl, sym, ◌∙◌, ap, subst}
 use mathlib.Core.Bool.{Bool, true, false, not}
@@ -14,7 +14,7 @@ use Rattle.paper.specs.Maybe.{◌>>=◌, require}
 use Rattle.paper.specs.Tokens.{reserved, member}
 use Rattle.paper.specs.Scanner.{scan, empty}
 use Rattle.paper.specs.DecodeAt.{word, raw_at, cursor}
-use Rattle.paper.specs.Decoder.{Cursor, Raw, number_of, raw_of, record_at, field, one_name, name_of, names_of, path_of, long_of}
+use Rattle.paper.specs.Decoder.{Raw, number_of, raw_of, record_at, field, one_name, name_of, names_of, path_of, long_of}
 use Rattle.theorems.proofs.Decoded.Parts.{Reads, exact_raw, raw_bytes, Narrow, length_little}
 use Rattle.theorems.proofs.Laws.Found.{Found, found}
 

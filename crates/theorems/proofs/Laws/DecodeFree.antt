@@ -5,7 +5,7 @@ use native.Mathlib.Omega.{arith}
 use native.Mathlib.Nat.{le_refl}
 use mathlib.Core.Path.{◌≡◌, refl, sym, ◌∙◌, ap}
 use mathlib.Core.Bool.{Bool, true, false}
-use mathlib.Core.List.{List, ◌∷◌}
+use mathlib.Core.List.{List}
 use mathlib.Core.Option.{Option, none, some}
 use lib.ListN.{length, length-append}
 use lib.Dec.{leb, ltb, eqb}
@@ -13,8 +13,7 @@ use borrow.Author.Tests.{ltb-true, ltb-false}
 use Rattle.paper.specs.Bytes.{if◌then◌else◌}
 use Rattle.paper.specs.Maybe.{◌>>=◌, require}
 use Rattle.paper.specs.Syntax.{Basic, vector, Basics, εⱽ, ◌∷ⱽ◌, Block, εᴮ, ◌∷ᴮ◌, assign, Value, basic, link, extends, Prototypes, εᴾ, named, block}
-use Rattle.paper.specs.Store.{Store, ∅, entry, component}
-use Rattle.paper.specs.Store as S
+use Rattle.paper.specs.Store.{Store, ∅, entry}
 use Rattle.paper.specs.Decoder.{Cursor, Raw, record_at, field, name_of, path_of, decimal_of, string_of, leaf, Form, basic_at, elements_at, header, ended}
 use Rattle.paper.specs.DecodeFrom.{basic_from, elements_from, entry_value, entries_from, statements_from, value_from, prototypes_from}
 use Rattle.paper.specs.TableDecoder.{in_table, entries_at, distinct, table_of}

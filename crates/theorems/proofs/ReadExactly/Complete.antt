@@ -15,7 +15,7 @@ use Rattle.paper.specs.Answer.{Answer, ok, refused, ◌>>=◌, demand}
 use Rattle.paper.specs.Syntax.{Path, Basic, boolean, null, integer, decimal, string, reference, vector, Basics, εⱽ, ◌∷ⱽ◌, Block, εᴮ, ◌∷ᴮ◌, assign, Value, basic, link, extends, Prototypes, εᴾ, named, block}
 use Rattle.paper.specs.Tokens.{Token, name, mark, end, reserved, member, Here, is_name, is_mark}
 use Rattle.paper.specs.Scanner.{next}
-use Rattle.paper.specs.Grammar.{brackets, brackets_in, openings, openings_v, openings_p, Spelt, sign, word, spell_path, spell_basic, spell_basics, target, then_prototypes, spell, spell_statement, spell_value, spell_prototypes, Free, Some, Legal}
+use Rattle.paper.specs.Grammar.{brackets, brackets_in, openings, openings_v, openings_p, Spelt, sign, spell_path, spell_basic, spell_basics, target, then_prototypes, spell, spell_statement, spell_value, spell_prototypes, Free, Some, Legal}
 use Rattle.paper.specs.Described.{Sits}
 use Rattle.paper.specs.Reader.{expect, expect_word, names, path, basic_at, basics, statements, value, prototypes, read, is_word, is_end, spelling}
 use Rattle.paper.specs.Reader as G

@@ -2,7 +2,7 @@
 use native.Mathlib.Omega.{arith}
 use mathlib.Core.Path.{◌≡◌, sym, ap, ◌∙◌}
 use mathlib.Core.List.{List}
-use Prim.Native.Nat.{ℕ, ◌-◌}
+use Prim.Native.Nat.{ℕ}
 use lib.ListN.{drop, length-drop}
 use Rattle.paper.specs.Scanner.{scan}
 use Rattle.tokens.specs.declared.gaps.Skipped.TheVariants.{To}

@@ -1,11 +1,11 @@
 -- The drafts in the work slice, settled, are the rows of the steps. Assumes nothing.
-use Prim.Native.Nat.{ℕ, zero, suc, ◌+◌, ◌*◌, ◌-◌, ◌/◌, ◌%◌, ◌≤◌, ◌<◌}
+use Prim.Native.Nat.{ℕ, zero, suc, ◌+◌, ◌*◌, ◌/◌, ◌%◌, ◌≤◌, ◌<◌}
 use native.Mathlib.Nat.{add-zero, zero-add, suc-add}
 use native.Mathlib.Omega.{arith}
 use mathlib.Core.Path.{◌≡◌, refl, sym, ap, ap₂, subst, ◌∙◌}
-use mathlib.Core.Bool.{true, false, true≢false}
+use mathlib.Core.Bool.{true≢false}
 use mathlib.Core.List.{List, [], ◌∷◌, ◌++◌}
-use mathlib.Core.Logic.{◌⊎◌, inl, ⊎_elim}
+use mathlib.Core.Logic.{inl, ⊎_elim}
 use lib.ListN.{length, drop, get_or, length-append, get_or-append}
 use lib.Seq.{get_or-append-add}
 use lib.Dec.{lit<}
@@ -13,7 +13,7 @@ use Rattle.paper.specs.Bytes.{if◌then◌else◌}
 use Rattle.paper.specs.Syntax.{Path, Basic, boolean, null, integer, decimal, string, reference, vector, Basics, εⱽ, ◌∷ⱽ◌}
 use Rattle.paper.specs.Tokens.{literal}
 use Rattle.paper.specs.Scanner.{token, scan}
-use Rattle.paper.specs.Layout.{Field, number, text, Row, little, path_text, long_text, text_of, row_text, row_bytes, figure, texts, records, laid_out, kind, elements, each}
+use Rattle.paper.specs.Layout.{Field, text, Row, little, path_text, long_text, text_of, row_text, row_bytes, figure, texts, records, laid_out, kind, elements, each}
 use Rattle.paper.specs.Steps.{Step, make, take, enter, leave, done, set, link}
 use Rattle.paper.specs.StepLayout.{step_row, item, step_rows, all_rows}
 use Rattle.theorems.proofs.Decoded.Parts.{length_little}

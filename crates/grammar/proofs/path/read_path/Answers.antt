@@ -1,6 +1,5 @@
 -- `read_path`: names are read while a colon follows. Assumes nothing.
 use native.Mathlib.Omega.{arith}
-use Prim.Native.Nat.{◌-◌}
 use Rattle.grammar.specs.declared.path.Path.TheVariants.{Whole, Broken}
 use Rattle.grammar.proofs.Rules.Paths.{too_many, last_name, fault_after, more_names, whole_path, one_less, one_more}
 use Rattle.grammar.proofs.path.read_path.Goals as goal

@@ -1,4 +1,3 @@
-use Prim.Native.Nat.{◌-◌}
 use Rattle.grammar.proofs.Rules.Paths.{PathLoop}
 use Rattle.grammar.proofs.path.read_path.Given as goal
 

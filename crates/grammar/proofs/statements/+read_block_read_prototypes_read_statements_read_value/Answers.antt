@@ -3,10 +3,8 @@
 -- Assumes nothing.
 use mathlib.Core.Path.{refl, ◌∙◌}
 use native.Mathlib.Omega.{arith}
-use Prim.Native.Nat.{◌-◌}
 use Rattle.grammar.proofs.Rules.Blocks.{block_missing, block_deep, block_no, block_open, block_done, prototypes_fault, ref_fault, ref_last, ref_more, inner_no, inner_fault, inner_last, inner_more}
 use Rattle.grammar.proofs.Rules.Statements.{value_no, set_no, set_done, link_done, extends_no, extends_done, statements_end, statements_fault, statements_no, statements_more}
-use borrow.Fn.PlainCycle.{is}
 use Rattle.grammar.proofs.statements.+read_block_read_prototypes_read_statements_read_value.Goals as goal
 
 pub read_block-mark-requires : goal.read_block-mark-requires

@@ -5,7 +5,6 @@ use native.Mathlib.Omega.{arith}
 use Prim.Native.Nat.{◌+◌, ◌-◌, ◌*◌}
 use lib.ListN.{length}
 use Rattle.grammar.proofs.Rules.Items.{basic_plain, basic_deep, basic_fault, basic_empty, basic_no, basic_items, items_none, items_no, items_fault, items_last, items_more}
-use borrow.Fn.PlainCycle.{is}
 use Rattle.grammar.proofs.vectors.+read_basic_read_items.Goals as goal
 
 pub read_basic-overflow_add-text : goal.read_basic-overflow_add-text

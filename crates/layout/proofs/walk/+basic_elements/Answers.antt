@@ -1,6 +1,5 @@
 -- The proof of the cycle of calls {basic, elements}: each need by a rule of `Steps`. Twice the number of records falls; `basic` leaves one
 -- record, its own, out. Assumes nothing.
-use Prim.Native.Nat.{◌-◌}
 use native.Mathlib.Omega.{arith}
 use mathlib.Core.Path.{sym, ◌∙◌}
 use lib.ListN.{length}
@@ -9,9 +8,6 @@ use Rattle.memory.proofs.Laws.{word_in, fits_yes, fits_no}
 use Rattle.layout.specs.declared.walk.Walk.TheVariants.{Walked, Wrong}
 use Rattle.layout.proofs.Heads.{sized, head_of, elements_headless, elements_unfit}
 use Rattle.layout.proofs.Steps.{basic_outside, basic_valued, basic_deep, basic_vector, basic_wide, basic_leaf, basic_no, elements_end, elements_no, elements_more}
-use borrow.Fn.PlainCycle.{is}
-use Rattle.layout.proofs.walk.basic.Reads as basic
-use Rattle.layout.proofs.walk.elements.Reads as elements
 use Rattle.layout.proofs.walk.+basic_elements.Goals as goal
 
 pub basic-returns-then-not-fits : goal.basic-returns-then-not-fits

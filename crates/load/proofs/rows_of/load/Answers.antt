@@ -1,5 +1,4 @@
 -- `load::rows_of::load`: the records passed are loaded. Assumes nothing.
-use Prim.Native.Nat.{◌-◌}
 use native.Mathlib.Omega.{arith}
 use mathlib.Core.Path.{refl, ◌∙◌}
 use Rattle.load.proofs.Loads.{load_none, load_turn, load_end}

@@ -1,5 +1,4 @@
 -- `main_table::lower::lower_rows` meets its contract: the records passed are written. Assumes nothing.
-use Prim.Native.Nat.{◌-◌}
 use native.Mathlib.Omega.{arith}
 use mathlib.Core.Path.{◌≡◌, refl, ◌∙◌, subst}
 use Rattle.memory.specs.Memory.{stored}

@@ -1,5 +1,5 @@
 -- `memory::number::get` meets its contract. Assumes nothing.
-use Prim.Native.Nat.{◌-◌, ◌<◌}
+use Prim.Native.Nat.{◌-◌}
 use native.Mathlib.Nat.{add-zero, sub-zero, one-le-pow, pow-zero}
 use native.Mathlib.Omega.{arith}
 use mathlib.Core.Path.{◌≡◌, sym, ◌∙◌}

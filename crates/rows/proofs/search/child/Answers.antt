@@ -1,5 +1,4 @@
 -- `rows::search::child` meets its contract: from every row that is passed on, the same is found. Assumes nothing.
-use Prim.Native.Nat.{◌-◌}
 use native.Mathlib.Omega.{arith}
 use mathlib.Core.Path.{refl, sym, ap, ◌∙◌}
 use Rattle.rows.specs.View.{label_of}
@@ -29,10 +28,10 @@ loop-i-preserved c =
     let a = c.args in
     let l = c.loop-i in
     l.invariant ∙ elim c.if-deep-d-2.branch [
-      then-deep-d-2+else-is_named w ↦
-      seeks_other a.t.now a.u.now a.w.now a.n c.count-k.result a.name.now a.d l.i c.count-k.ensures c.loop-i-test.true (sym c.half-deep.ensures.0 ∙ w.if-deep-d-2.true) (sym w.if-is_named.false ∙ w.is_named.ensures ∙ ap (λ p. calls (label_of a.t.now a.u.now p) a.name.now) w.half.ensures.0)
+      | then-deep-d-2+else-is_named w ↦
+          seeks_other a.t.now a.u.now a.w.now a.n c.count-k.result a.name.now a.d l.i c.count-k.ensures c.loop-i-test.true (sym c.half-deep.ensures.0 ∙ w.if-deep-d-2.true) (sym w.if-is_named.false ∙ w.is_named.ensures ∙ ap (λ p. calls (label_of a.t.now a.u.now p) a.name.now) w.half.ensures.0)
       | else-deep-d-2 w ↦
-      seeks_under a.t.now a.u.now a.w.now a.n c.count-k.result a.name.now a.d l.i c.count-k.ensures c.loop-i-test.true (omega (arith, c.half-deep.ensures.0, c.if-deep-d.false, w.if-deep-d-2.false))
+          seeks_under a.t.now a.u.now a.w.now a.n c.count-k.result a.name.now a.d l.i c.count-k.ensures c.loop-i-test.true (omega (arith, c.half-deep.ensures.0, c.if-deep-d.false, w.if-deep-d-2.false))
     ]
 
 pub returns : goal.returns

@@ -1,5 +1,4 @@
 -- `rows::search::deepest_of` meets its contract: the greater of what is passed and of what is left is the same at each turn. Assumes nothing.
-use Prim.Native.Nat.{◌-◌}
 use native.Mathlib.Omega.{arith}
 use Rattle.rows.proofs.Searches.{deepest_none, deepest_one}
 use Rattle.rows.proofs.search.deepest_of.Goals as goal

@@ -1,5 +1,4 @@
 -- `rows::search::end_of` meets its contract: from every row that is passed on, the end is the same. Assumes nothing.
-use Prim.Native.Nat.{◌-◌}
 use native.Mathlib.Omega.{arith}
 use mathlib.Core.Path.{refl, sym, ◌∙◌}
 use Rattle.rows.proofs.Searches.{ends_none, ends_here, ends_on}

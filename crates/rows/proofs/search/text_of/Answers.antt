@@ -1,5 +1,4 @@
 -- `rows::search::text_of` meets its contract: what is summed and what is left to sum come to the same at each turn. Assumes nothing.
-use Prim.Native.Nat.{◌-◌}
 use native.Mathlib.Omega.{arith}
 use Rattle.rows.proofs.Searches.{text_none, text_one}
 use Rattle.rows.proofs.search.text_of.Goals as goal

@@ -1,5 +1,4 @@
 -- `rows::text::same_at` meets its contract: the runs are the same if what is left of them is. Assumes nothing.
-use Prim.Native.Nat.{◌-◌}
 use native.Mathlib.Omega.{arith}
 use mathlib.Core.Path.{refl, sym, ◌∙◌}
 use lib.ListN.{length, take, drop}

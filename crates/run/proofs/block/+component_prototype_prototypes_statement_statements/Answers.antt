@@ -1,6 +1,6 @@
 -- The proof of the cycle of calls of a block's statements and a component's prototypes: each need by a rule of `Statements`, `Prototypes` or `Going`.
 -- Three times the records that are left falls, with what the call is for as its last digit. Assumes nothing.
-use Prim.Native.Nat.{◌+◌, ◌-◌, ◌*◌}
+use Prim.Native.Nat.{◌+◌, ◌*◌}
 use native.Mathlib.Omega.{arith}
 use mathlib.Core.Path.{◌≡◌, refl, sym, ◌∙◌, ap, subst}
 use mathlib.Core.Bool.{true, false}
@@ -19,12 +19,6 @@ use Rattle.run.proofs.Evaluating.{names_before}
 use Rattle.run.proofs.Statements.{statement_none, statement_set, statement_link, statement_component, component_refused, component_on}
 use Rattle.run.proofs.Prototypes.{prototype_take, block_refused, block_on, block_starts, block_ends, prototypes_start, prototypes_end}
 use Rattle.run.proofs.Going.{placed_in, statement_there, prototype_there, kept_all, kept_less, kept_both, statement_on, statement_off, prototype_on, prototype_off}
-use borrow.Fn.PlainCycle.{is}
-use Rattle.run.proofs.block.component.Reads as component
-use Rattle.run.proofs.block.prototype.Reads as prototype
-use Rattle.run.proofs.block.prototypes.Reads as prototypes
-use Rattle.run.proofs.block.statements.Reads as statements
-use Rattle.run.proofs.block.+component_prototype_prototypes_statement_statements.{statement}
 use Rattle.run.proofs.block.+component_prototype_prototypes_statement_statements.Goals as goal
 
 pub component-make-requires : goal.component-make-requires

@@ -5,9 +5,6 @@ use mathlib.Core.List.{◌++◌}
 use Rattle.rows.specs.View.{view}
 use Rattle.run.specs.Paths.{names, FoundIn, FindsIn}
 use Rattle.run.proofs.Finding.{resolve_here, resolve_ends, resolve_again}
-use Prim.Native.Nat.{◌+◌, ◌-◌}
-use borrow.Fn.PlainCycle.{is}
-use Rattle.run.proofs.find.resolve.Reads as resolve
 use Rattle.run.proofs.find.+resolve.Goals as goal
 
 pub find-found-requires : goal.find-found-requires

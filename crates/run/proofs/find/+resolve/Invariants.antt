@@ -1,4 +1,3 @@
-use Prim.Native.Nat.{◌-◌}
 use Rattle.run.proofs.find.+resolve.Given as goal
 
 abbrev pub decreases-resolve : goal.decreases-resolve

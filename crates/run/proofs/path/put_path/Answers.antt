@@ -1,5 +1,5 @@
 -- `run::path::put_path`: the places of the names passed are stored. Assumes nothing.
-use Prim.Native.Nat.{◌+◌, ◌-◌}
+use Prim.Native.Nat.{◌+◌}
 use native.Mathlib.Omega.{arith}
 use mathlib.Core.Path.{refl, ◌∙◌}
 use Rattle.run.proofs.Placing.{after_none, after_more, put_none, put_turn, put_end}

@@ -1,12 +1,9 @@
 -- `run::place::descend` meets its contract. Assumes nothing.
-use Prim.Native.Nat.{◌-◌}
 use native.Mathlib.Omega.{arith}
 use mathlib.Core.Path.{sym, ◌∙◌, ap}
 use Rattle.rows.specs.View.{name_of}
 use Rattle.rows.specs.Search.{sought}
 use Rattle.run.proofs.Walking.{walk_end, walk_absent, walk_stuck, walk_on, sought_in}
-use borrow.Fn.PlainCycle.{is}
-use Rattle.run.proofs.place.descend.Reads as descend
 use Rattle.run.proofs.place.+descend.Goals as goal
 
 pub returns-then-j-k : goal.returns-then-j-k

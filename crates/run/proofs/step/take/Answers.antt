@@ -1,5 +1,4 @@
 -- `run::step::take` meets its contract. Assumes nothing.
-use Prim.Native.Nat.{◌-◌}
 use native.Mathlib.Omega.{arith}
 use mathlib.Core.Path.{sym, ◌∙◌, subst}
 use lib.ListN.{drop}

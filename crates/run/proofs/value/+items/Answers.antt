@@ -1,10 +1,8 @@
 -- `run::value::items`, which calls itself: the records of an item's elements are fewer than those of the items. Assumes nothing.
-use Prim.Native.Nat.{◌-◌}
 use native.Mathlib.Omega.{arith}
 use mathlib.Core.Path.{refl, ◌∙◌}
 use mathlib.Core.Logic.{inl, inr}
 use Rattle.run.proofs.Valuing.{goes_start, goes_end, goes_stuck, goes_turn}
-use Rattle.run.proofs.value.items.Reads as items
 use Rattle.run.proofs.value.+items.Goals as goal
 
 pub loop-k-init : goal.loop-k-init

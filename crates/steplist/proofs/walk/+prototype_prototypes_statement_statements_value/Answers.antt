@@ -1,7 +1,7 @@
 -- The proof of the cycle of calls {statements, statement, value, prototypes, prototype}: each need by a rule of `Statements` or `Values`.
 -- Four times the bytes of records left, and which function it is, fall. Assumes nothing.
 -- Four times the bytes of records left, and which function it is, fall. Assumes nothing.
-use Prim.Native.Nat.{◌+◌, ◌-◌}
+use Prim.Native.Nat.{◌+◌}
 use native.Mathlib.Omega.{arith}
 use mathlib.Core.Path.{sym, ◌∙◌}
 use lib.ListN.{length}
@@ -10,12 +10,6 @@ use Rattle.memory.proofs.Laws.{word_in, fits_yes, fits_no}
 use Rattle.layout.specs.declared.walk.Walk.TheVariants.{Walked, Wrong}
 use Rattle.steplist.proofs.Values.{make_marred, make_valued, make_done, make_prototypes}
 use Rattle.steplist.proofs.Statements.{statement_cut, statement_late, statement_no, statement_value, statements_stop, statements_no, statements_more, closed_inside, prototype_take, block_marred, block_deep, block_no, block_unclosed, block_closed, opens_inside, prototypes_no, prototypes_more, prototypes_unclosed, prototypes_done, stopped}
-use borrow.Fn.PlainCycle.{is}
-use Rattle.steplist.proofs.walk.prototype.Reads as prototype
-use Rattle.steplist.proofs.walk.prototypes.Reads as prototypes
-use Rattle.steplist.proofs.walk.statements.Reads as statements
-use Rattle.steplist.proofs.walk.value.Reads as value
-use Rattle.steplist.proofs.walk.+prototype_prototypes_statement_statements_value.{statement}
 use Rattle.steplist.proofs.walk.+prototype_prototypes_statement_statements_value.Goals as goal
 
 pub prototype-take-requires : goal.prototype-take-requires

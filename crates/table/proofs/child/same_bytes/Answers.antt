@@ -1,5 +1,4 @@
 -- `table::child::same_bytes` meets its contract: the runs are the same if what is left of them is. Assumes nothing.
-use Prim.Native.Nat.{◌-◌}
 use native.Mathlib.Omega.{arith}
 use mathlib.Core.Path.{sym, ◌∙◌, refl}
 use Rattle.table.proofs.Children.{same_long, same_end, same_goes, same_stops}

@@ -1,6 +1,5 @@
 -- The proof of the cycle of calls {distinct, distinct_in}: each need by a rule of `Children`. Twice the number of records falls; `distinct`
 -- calls `distinct_in` with as many records as it has, so its measure is one more. Assumes nothing.
-use Prim.Native.Nat.{◌-◌}
 use native.Mathlib.Omega.{arith}
 use native.Mathlib.Nat.{le_refl}
 use mathlib.Core.Path.{◌∙◌}
@@ -8,9 +7,6 @@ use mathlib.Core.Bool.{true, false}
 use borrow.Author.Tests.{not-true, not-false}
 use Rattle.memory.proofs.Laws.{word_in}
 use Rattle.table.proofs.Children.{span_at_of, distinct_end, distinct_stuck, distinct_twice, distinct_below as distinct-inner, distinct_more, distinct_basic, distinct_component}
-use borrow.Fn.PlainCycle.{is}
-use Rattle.table.proofs.once.distinct.Reads as distinct
-use Rattle.table.proofs.once.distinct_in.Reads as distinct_in
 use Rattle.table.proofs.once.+distinct_distinct_in.Goals as goal
 
 pub distinct-loop-left-init : goal.distinct-loop-left-init

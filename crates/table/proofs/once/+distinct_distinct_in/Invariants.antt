@@ -1,4 +1,4 @@
-use Prim.Native.Nat.{◌+◌, ◌-◌, ◌*◌, ◌≤◌}
+use Prim.Native.Nat.{◌+◌, ◌*◌, ◌≤◌}
 use mathlib.Core.Bool.{Bool}
 use Rattle.table.specs.Child.{DistinctIs}
 use Rattle.table.proofs.once.+distinct_distinct_in.Given as goal

@@ -1,5 +1,4 @@
 -- `table::once::alone` meets its contract. Assumes nothing.
-use Prim.Native.Nat.{◌-◌}
 use native.Mathlib.Omega.{arith}
 use Rattle.table.proofs.Children.{found_told, alone_no, alone_yes}
 use Rattle.table.proofs.once.alone.Goals as goal

@@ -1,6 +1,5 @@
 -- The proof of the cycle of calls {entries, value}: each need by a rule of `Steps`. Twice the number of records falls; `entries` calls
 -- `value` with as many records as it has, so its measure is one more. Assumes nothing.
-use Prim.Native.Nat.{◌-◌}
 use native.Mathlib.Omega.{arith}
 use mathlib.Core.Path.{sym, ◌∙◌}
 use borrow.Author.Tests.{not-true, not-false}
@@ -8,9 +7,6 @@ use Rattle.memory.proofs.Laws.{word_in}
 use Rattle.layout.specs.declared.walk.Walk.TheVariants.{Walked, Wrong}
 use Rattle.table.proofs.Heads.{head_of, entries_headless}
 use Rattle.table.proofs.Steps.{value_basic, value_valued, value_component, entries_end, entries_unnamed, entries_no, entries_more}
-use borrow.Fn.PlainCycle.{is}
-use Rattle.table.proofs.walk.entries.Reads as entries
-use Rattle.table.proofs.walk.value.Reads as value
 use Rattle.table.proofs.walk.+entries_value.Goals as goal
 
 pub entries-loop-left-init : goal.entries-loop-left-init

@@ -1,4 +1,4 @@
-use Prim.Native.Nat.{◌+◌, ◌-◌, ◌*◌, ◌≤◌}
+use Prim.Native.Nat.{◌+◌, ◌*◌, ◌≤◌}
 use Rattle.layout.specs.declared.walk.Walk.{Walk}
 use Rattle.layout.specs.Walk.{WalkIs}
 use Rattle.table.specs.Walk.{entries_here}

@@ -1,7 +1,6 @@
 -- `tokens::gaps::comment_end` meets its contract. Assumes nothing.
 use native.Mathlib.Omega.{arith}
 use mathlib.Core.Path.{refl, sym, ◌∙◌}
-use Prim.Native.Nat.{◌-◌}
 use Rattle.tokens.proofs.Skips.{closing_here, closing_later, closing_never, close_next}
 use Rattle.tokens.proofs.gaps.comment_end.Goals as goal
 

@@ -1,7 +1,6 @@
 -- `tokens::gaps::skip` meets its contract. Assumes nothing.
 use native.Mathlib.Omega.{arith}
 use mathlib.Core.Path.{refl, sym, ap, ◌∙◌}
-use Prim.Native.Nat.{◌-◌}
 use Rattle.tokens.specs.Gaps.{skip_of}
 use Rattle.tokens.proofs.Skips.{stops, goes, opens, ends_at}
 use Rattle.tokens.proofs.gaps.skip.Goals as goal

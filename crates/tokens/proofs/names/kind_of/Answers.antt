@@ -3,7 +3,6 @@ use borrow.Author.Rules.{rules}
 use native.Mathlib.Omega.{arith}
 use mathlib.Core.Path.{refl, sym, ap, ◌∙◌}
 use mathlib.Core.List.{[]}
-use Prim.Native.Nat.{◌-◌}
 use Rattle.paper.specs.Bytes.{same}
 use Rattle.tokens.proofs.Words.{row_word, len_fits, row_long, word_here, word_later, word_none}
 use Rattle.tokens.proofs.names.kind_of.Goals as goal

@@ -1,7 +1,6 @@
 -- `tokens::names::name_len` meets its contract. Assumes nothing.
 use native.Mathlib.Omega.{arith}
 use mathlib.Core.Path.{sym, ap, ◌∙◌}
-use Prim.Native.Nat.{◌-◌}
 use borrow.Author.Tests.{le-leb, lt-leb}
 use Rattle.paper.specs.Tokens.{goes_on}
 use Rattle.tokens.proofs.Runs.{span_end, span_stop, span_step}

@@ -1,7 +1,6 @@
 -- `tokens::numbers::negative` meets its contract. Assumes nothing.
 use native.Mathlib.Omega.{arith}
 use mathlib.Core.Path.{sym, ap, ◌∙◌}
-use Prim.Native.Nat.{◌-◌}
 use Rattle.tokens.specs.Numbers.{complement_of}
 use Rattle.tokens.proofs.Digits.{complement_zero, complement_some}
 use Rattle.tokens.proofs.numbers.negative.Goals as goal

@@ -1,6 +1,5 @@
 -- `write_list`: what the rows that are left make of the slice is what all of them make of it. Assumes nothing.
 use native.Mathlib.Omega.{arith}
-use Prim.Native.Nat.{◌-◌}
 use mathlib.Core.Path.{◌∙◌}
 use Rattle.translate.proofs.Rules.Rows.{list_begin, list_row, list_more, list_end}
 use Rattle.translate.proofs.list.write_list.Goals as goal

@@ -1,6 +1,5 @@
 -- `put_path`: names are written as they are read; were those that are left written too, the text would be whole. Assumes nothing.
 use native.Mathlib.Omega.{arith}
-use Prim.Native.Nat.{◌-◌}
 use lib.ListN.{length-set}
 use Rattle.translate.proofs.Rules.Paths.{path_begin, path_next, path_room, path_few, path_more, path_end, path_long}
 use Rattle.translate.proofs.path.put_path.Goals as goal

@@ -1,5 +1,4 @@
 -- `write::whole::put_rows`: what the rows that are left make of the slice is what all of them make of it. Assumes nothing.
-use Prim.Native.Nat.{◌-◌}
 use native.Mathlib.Omega.{arith}
 use Rattle.write.proofs.Lays.{rows_begin, rows_record, rows_texts, rows_more, rows_end}
 use Rattle.write.proofs.whole.put_rows.Goals as goal

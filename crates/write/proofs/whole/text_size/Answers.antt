@@ -1,5 +1,4 @@
 -- `write::whole::text_size`: what is counted and what is left come to the whole. Assumes nothing.
-use Prim.Native.Nat.{◌-◌}
 use native.Mathlib.Omega.{arith}
 use Rattle.write.proofs.Lays.{size_more, size_end}
 use Rattle.write.proofs.whole.text_size.Goals as goal
