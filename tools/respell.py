@@ -28,8 +28,9 @@ def defined():
     return names
 
 
-# A lemma that would have its function's name.
+# A lemma that would have its function's name, and the choice between two values, whose older name is now the library's.
 ALONE = {'integer-front': 'integer_front_lem'}
+CHOICE = {'if': 'when', 'if◌then◌else◌': 'when◌then◌else◌'}
 
 
 def respelt(n):
@@ -53,7 +54,7 @@ def respelt(n):
 
 
 def table():
-    return {n: r for n in defined() for r in [respelt(n)] if r != n}
+    return {**CHOICE, **{n: r for n in defined() - set(CHOICE) for r in [respelt(n)] if r != n}}
 
 
 def turned(text, names):

@@ -7,7 +7,7 @@ use mathlib.Core.Path.{◌≡◌, refl, sym, ◌∙◌, ap, subst}
 use mathlib.Core.Bool.{Bool, true, false}
 use mathlib.Core.List.{List, [], ◌∷◌, ◌++◌, append_assoc, append-nil}
 use lib.ListN.{length, drop, length-append}
-use Rattle.paper.specs.Bytes.{if◌then◌else◌}
+use Rattle.paper.specs.Bytes.{when◌then◌else◌}
 use Rattle.paper.specs.Answer.{Answer, ok, refused, ◌>>=◌, demand}
 use Rattle.paper.specs.Syntax.{Path, Basic, boolean, null, integer, decimal, string, reference, vector, Basics, εⱽ, ◌∷ⱽ◌, Block, εᴮ, ◌∷ᴮ◌, assign, Value, basic, link, extends, Prototypes, εᴾ, named, block}
 use Rattle.paper.specs.Tokens.{Token, name, literal, mark, end, Here}
@@ -41,8 +41,8 @@ unfolding ◌>>=◌
 alike_after (ok x) f g k = k x refl
 alike_after (refused n p) f g k = neither
 
-alike_if : {C D : Type 0} {Q : C → D → Type 0} (c : Bool) {a b : Answer C} {x y : Answer D} → Alike Q a x → Alike Q b y → Alike Q (if c then a else b) (if c then x else y)
-unfolding if◌then◌else◌
+alike_if : {C D : Type 0} {Q : C → D → Type 0} (c : Bool) {a b : Answer C} {x y : Answer D} → Alike Q a x → Alike Q b y → Alike Q (when c then a else b) (when c then x else y)
+unfolding when◌then◌else◌
 alike_if true p q = p
 alike_if false p q = q
 

@@ -1,6 +1,6 @@
 -- What the readers of basics answer, by cases: what is left to read once a basic has begun. Assumes nothing.
 use Rattle.std.specs.Prelude.{ℕ, suc, ◌+◌, ◌*◌, ◌-◌, ◌≤◌, ◌<◌, ◌≡◌, true, false, List, [], ltb, length}
-use Rattle.paper.specs.Bytes.{if◌then◌else◌}
+use Rattle.paper.specs.Bytes.{when◌then◌else◌}
 use Rattle.paper.specs.Answer.{Answer, ok, refused, ◌>>=◌, demand}
 use Rattle.paper.specs.Tokens.{Here, is_mark}
 use Rattle.paper.specs.Scanner.{next}
@@ -33,7 +33,7 @@ unfoldable pub rest_vector : ℕ → ℕ → ℕ → Here → Answer (Drafted ×
 rest_vector f d p at = do
   _ ← demand (ltb 0 d) 5 p
   (u, _, closed) ← next at
-  if is_mark "]" u then ok (several [], closed) else (do
+  when is_mark "]" u then ok (several [], closed) else (do
     (is, at) ← draft_basics f (d - 1) at
     ok (several is, at))
 

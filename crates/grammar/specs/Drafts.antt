@@ -2,7 +2,7 @@
 -- are still places in the source: where the path, or the value's text, can be read again. These readers go the way of paper's `Reader`,
 -- line by line, and give drafts where that gives a block. Assumes nothing.
 use Rattle.std.specs.Prelude.{ℕ, zero, suc, ◌+◌, ◌*◌, ◌-◌, List, [], ◌∷◌, ◌++◌, length, leb, ltb}
-use Rattle.paper.specs.Bytes.{if◌then◌else◌}
+use Rattle.paper.specs.Bytes.{when◌then◌else◌}
 use Rattle.paper.specs.Answer.{Answer, ok, refused, ◌>>=◌, demand}
 use Rattle.paper.specs.Syntax.{Basic, boolean, null, integer, decimal, string, reference, vector}
 use Rattle.paper.specs.Tokens.{Token, name, literal, mark, end, is_name, is_mark, Here}
@@ -44,10 +44,10 @@ item_draft b = draft 7 b.kind 0 (suc (length b.items)) b.value 0 b.size ∷ b.it
 
 unfoldable pub draft_word : Token → Here → Here → Answer (Drafted × Here)
 draft_word t h after =
-    if is_word "true" t then ok (one 1 1 0, after) else
-    if is_word "false" t then ok (one 1 0 0, after) else
-    if is_word "NULL" t then ok (one 2 0 0, after) else
-    if is_word "DATA" t then (do (r, at) ← path after; ok (one 6 after.place (length (path_text r)), at)) else
+    when is_word "true" t then ok (one 1 1 0, after) else
+    when is_word "false" t then ok (one 1 0 0, after) else
+    when is_word "NULL" t then ok (one 2 0 0, after) else
+    when is_word "DATA" t then (do (r, at) ← path after; ok (one 6 after.place (length (path_text r)), at)) else
     refused 3 h.place
 
 -- a literal that stands at p; the scanner's are integers, decimals and strings
@@ -72,7 +72,7 @@ unfoldable mutual
         at ← expect "[" at
         _ ← demand (ltb 0 d) 5 h.place
         (u, _, closed) ← next at
-        if is_mark "]" u then ok (several [], closed) else (do
+        when is_mark "]" u then ok (several [], closed) else (do
           (is, at) ← draft_basics f (d - 1) at
           ok (several is, at))
       | end ↦ refused 3 h.place
@@ -83,7 +83,7 @@ unfoldable mutual
   draft_basics (suc f) d at = do
     (b, at) ← draft_basic f d at
     (t, _, _) ← next at
-    if is_mark "," t
+    when is_mark "," t
         then (do
           at ← expect "," at
           (is, at) ← draft_basics f d at
@@ -113,7 +113,7 @@ unfoldable mutual
   draft_statements zero d at = refused 0 0
   draft_statements (suc f) d at = do
     (t, h, _) ← next at
-    if is_name t
+    when is_name t
         then (do
           (r, at) ← path at
           (ds, at) ← draft_value f d h.place (length (path_text r)) at
@@ -126,12 +126,12 @@ unfoldable mutual
   draft_value zero d p z at = refused 0 0
   draft_value (suc f) d p z at = do
     (t, h, _) ← next at
-    if is_word "extends" t
+    when is_word "extends" t
         then (do
           at ← expect_word "extends" at
           (ds, at) ← draft_prototypes f d at
           ok (make_draft p z ∷ ds ++ (bare_draft 5 ∷ []), at))
-        else if is_name t then (do
+        else when is_name t then (do
           (r, at) ← path at
           at ← expect ";" at
           ok (link_draft p h.place (z + length (path_text r)) ∷ [], at))
@@ -144,11 +144,11 @@ unfoldable mutual
   draft_prototypes zero d at = refused 0 0
   draft_prototypes (suc f) d at = do
     (t, h, _) ← next at
-    if is_name t
+    when is_name t
         then (do
           (r, at) ← path at
           (u, _, _) ← next at
-          if is_mark "," u
+          when is_mark "," u
               then (do
                 at ← expect "," at
                 (ds, at) ← draft_prototypes f d at
@@ -162,7 +162,7 @@ unfoldable mutual
           (ds, at) ← draft_statements f (d - 1) at
           at ← expect "}" at
           (u, _, _) ← next at
-          if is_mark "," u
+          when is_mark "," u
               then (do
                 at ← expect "," at
                 (es, at) ← draft_prototypes f d at

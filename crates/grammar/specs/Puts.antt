@@ -1,7 +1,7 @@
 -- Drafts in the lent slice, as step records: the first 1,024, 20 bytes each. Assumes nothing.
 use Rattle.std.specs.Prelude.{ℕ, suc, ◌*◌, ◌≡◌, List, [], ◌∷◌, ltb, length, drop}
 use Rattle.std.proofs.lemmas.List.Edits.{sets}
-use Rattle.paper.specs.Bytes.{if◌then◌else◌}
+use Rattle.paper.specs.Bytes.{when◌then◌else◌}
 use Rattle.paper.specs.Layout.{Row, number, row_bytes}
 use Rattle.paper.specs.StepLayout.{step_row}
 use Rattle.grammar.specs.Drafts.{Draft}
@@ -16,7 +16,7 @@ path_row i p = step_row i 0 (number p) 0 (number 0) p
 
 -- the row as record number n, where it is one of those that are kept
 unfoldable pub put_row : List ℕ → ℕ → Row → List ℕ
-put_row b n x = if ltb n 1024 then sets b (20 * n) (row_bytes 0 x) else b
+put_row b n x = when ltb n 1024 then sets b (20 * n) (row_bytes 0 x) else b
 
 -- drafts from number n on
 unfoldable pub puts : List ℕ → ℕ → List Draft → List ℕ

@@ -1,6 +1,6 @@
 -- What the crate answers: the drafts of a description in the lent slice, or the refusal. Assumes nothing.
 use Rattle.std.specs.Prelude.{ℕ, ◌≡◌, List, ltb, length}
-use Rattle.paper.specs.Bytes.{if◌then◌else◌}
+use Rattle.paper.specs.Bytes.{when◌then◌else◌}
 use Rattle.paper.specs.Answer.{Answer, ok, refused}
 use Rattle.paper.specs.Lent.{wiped}
 use Rattle.grammar.specs.Drafts.{Draft, drafts, text_size}
@@ -20,7 +20,7 @@ answered (refused n p) w = record { answer = Refused n p; work = wiped w }
 
 -- "a lent slice too short", 8, leaves it as it was
 unfoldable pub reads : List ℕ → List ℕ → Result
-reads source w = if ltb (length w) 65536 then record { answer = Refused 8 0; work = w } else answered (drafts source) w
+reads source w = when ltb (length w) 65536 then record { answer = Refused 8 0; work = w } else answered (drafts source) w
 
 -- the whole description in a slice b₀ that has room
 pub record WholeDone (s b₀ b₁ : List ℕ) (n t : ℕ) : Type 0 where

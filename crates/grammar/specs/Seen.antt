@@ -1,7 +1,7 @@
 -- What the readers of single tokens answer, by cases. Assumes nothing.
 use Rattle.std.specs.Prelude.{ℕ, ◌+◌, ◌≤◌, ◌≡◌, true, false, List, length, ℤ, eqb}
 use Prim.Native.Char.{Char, code}
-use Rattle.paper.specs.Bytes.{bytes, if◌then◌else◌}
+use Rattle.paper.specs.Bytes.{bytes, when◌then◌else◌}
 use Rattle.paper.specs.Answer.{Answer, ok, refused, ◌>>=◌, demand}
 use Rattle.paper.specs.Syntax.{integer, decimal, string}
 use Rattle.paper.specs.Tokens.{Token, name, literal, mark, end, is_name, is_mark, Here}
@@ -27,11 +27,11 @@ use Rattle.grammar.specs.declared.token.Ahead.TheVariants.{Yes, No, Fault as Fau
 -- a reserved word by its place in their list
 unfoldable pub word_of : ℕ → Word
 word_of i =
-    if eqb i 0 then Extends else
-    if eqb i 1 then Data else
-    if eqb i 2 then Null else
-    if eqb i 3 then True else
-    if eqb i 4 then False else
+    when eqb i 0 then Extends else
+    when eqb i 1 then Data else
+    when eqb i 2 then Null else
+    when eqb i 3 then True else
+    when eqb i 4 then False else
     Other
 
 -- a token's kind with its places

@@ -9,7 +9,7 @@ use mathlib.Core.List.{List}
 use mathlib.Core.Option.{Option, none, some}
 use lib.ListN.{length}
 use borrow.Author.Tests.{le-leb, lt-leb, eq-eqb, ne_eqb}
-use Rattle.paper.specs.Bytes.{if◌then◌else◌}
+use Rattle.paper.specs.Bytes.{when◌then◌else◌}
 use Rattle.paper.specs.Maybe.{◌>>=◌, require}
 use Rattle.paper.specs.Syntax.{vector, εⱽ, ◌∷ⱽ◌}
 use Rattle.paper.specs.Decoder.{Cursor}
@@ -55,31 +55,31 @@ module _ (form : Form) (recs text : List ℕ) (d m i p : ℕ) (b : Bytes recs) w
     basic_open = basic_inside form recs text i p b d m h ∙ rw (kind_is, value_is)
 
     pub basic_valued : k ≡ 7 → (v ≡ 0 → ⊥) → basic_here form recs text d m i p ≡ none
-    unfolding basic_body if◌then◌else◌ ◌>>=◌ require
+    unfolding basic_body when◌then◌else◌ ◌>>=◌ require
     basic_valued a z = basic_open ∙ basic_is (form_of form) d k m v _ ∙ rw (a, ne_eqb v 0 z)
 
     pub basic_deep : k ≡ 7 → v ≡ 0 → top_of form < d → basic_here form recs text d m i p ≡ none
-    unfolding basic_body if◌then◌else◌ ◌>>=◌ require top_of
+    unfolding basic_body when◌then◌else◌ ◌>>=◌ require top_of
     basic_deep a z l = basic_open ∙ basic_is (form_of form) d k m v _ ∙ rw (a, eq-eqb v 0 z, lt-leb d (form_of form).top l)
 
     pub basic_vector : (r : Walk) → k ≡ 7 → v ≡ 0 → d ≤ top_of form → WalkIs (elements_here form recs text (d + 1) (m - 1) (i + size_of form) p) recs text r → WalkIs (basic_here form recs text d m i p) recs text r
-    unfolding basic_body if◌then◌else◌ ◌>>=◌ require top_of elements_here
+    unfolding basic_body when◌then◌else◌ ◌>>=◌ require top_of elements_here
     basic_vector r a z l w =
         rw (basic_open, basic_is (form_of form) d k m v (cursor recs text (i + size_of form) p), a, eq-eqb v 0 z, le-leb d (form_of form).top l)
         (onto recs text _ vector r (rw (add-one d) at w))
 
     pub basic_wide : (k ≡ 7 → ⊥) → (m ≡ 1 → ⊥) → basic_here form recs text d m i p ≡ none
-    unfolding basic_body if◌then◌else◌ ◌>>=◌ require
+    unfolding basic_body when◌then◌else◌ ◌>>=◌ require
     basic_wide a z = basic_open ∙ basic_is (form_of form) d k m v _ ∙ rw (ne_eqb k 7 a, ne_eqb m 1 z)
 
     pub basic_leaf : (q : ℕ) → (k ≡ 7 → ⊥) → m ≡ 1 → LeafIs text k v p (At q) → WalkIs (basic_here form recs text d m i p) recs text (Walked (i + size_of form) q)
-    unfolding basic_body if◌then◌else◌ ◌>>=◌ require
+    unfolding basic_body when◌then◌else◌ ◌>>=◌ require
     basic_leaf q a z w =
         let t = w recs (i + size_of form) in
         (t.0, basic_open ∙ basic_is (form_of form) d k m v _ ∙ rw (ne_eqb k 7 a, eq-eqb m 1 z) t.1)
 
     pub basic_no : (k ≡ 7 → ⊥) → m ≡ 1 → LeafIs text k v p Bad → basic_here form recs text d m i p ≡ none
-    unfolding basic_body if◌then◌else◌ ◌>>=◌ require
+    unfolding basic_body when◌then◌else◌ ◌>>=◌ require
     basic_no a z w = basic_open ∙ basic_is (form_of form) d k m v _ ∙ rw (ne_eqb k 7 a, eq-eqb m 1 z) (w recs (i + size_of form))
 
 -- ---- elements

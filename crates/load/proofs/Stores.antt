@@ -9,7 +9,7 @@ use lib.ListN.{length, take, drop, get_or, length-append}
 use lib.Seq.{take_at, drop_at, drop-drop}
 use lib.Dec.{T}
 use borrow.Author.Tests.{le-leb, lt-leb, eq-eqb, ne_eqb}
-use Rattle.paper.specs.Bytes.{if◌then◌else◌}
+use Rattle.paper.specs.Bytes.{when◌then◌else◌}
 use Rattle.paper.specs.Syntax.{Name, Basic, boolean, null, integer, decimal, string, reference, vector, Basics, εⱽ, ◌∷ⱽ◌}
 use Rattle.paper.specs.Tokens.{in_range}
 use Rattle.paper.specs.Store.{Store, ∅, entry, Value, basic, component}
@@ -67,11 +67,11 @@ placed_here : (p : ℕ) → p ≤ 16384 → p % 32768 + 32768 ≡ p + 32768
 placed_here p h = omega arith
 
 no_name : (t u : List ℕ) (k : ℕ) → k ≡ 65535 → label_of t u k ≡ number k
-unfolding label_of if◌then◌else◌
+unfolding label_of when◌then◌else◌
 no_name t u k e = rw (eq-eqb k 65535 e) (ap number (sym e))
 
 a_name : (t u : List ℕ) (p : ℕ) (n : Name) (more : List ℕ) → p ≤ length u → p ≤ 16384 → drop p u ≡ name_text n ++ more → label_of t u (p + 32768) ≡ text (name_text n)
-unfolding label_of label_text name_text if◌then◌else◌
+unfolding label_of label_text name_text when◌then◌else◌
 a_name t u p n more l h e =
     let q : p + 32768 - 32768 ≡ p = omega arith in
     let b : byte_of t u (p + 32768) ≡ length n = byte_second t u (p + 32768) (omega arith) ∙ ap (λ j. get_or u j 0) q ∙ byte_there u (n ++ more) p (length n) e in
@@ -105,12 +105,12 @@ label_back t u p (text s) more (n, e) d l h =
     }
 
 no_text : (t u : List ℕ) (k v m : ℕ) → (k < 4) ⊎ (6 < k) → value_of t u k v m ≡ number v
-unfolding value_of if◌then◌else◌
+unfolding value_of when◌then◌else◌
 no_text t u k v m (inl h) = rw (lt-leb 4 k h)
 no_text t u k v m (inr h) = rw (le-leb 4 k (omega arith), lt-leb k 6 h)
 
 a_text : (t u : List ℕ) (k p : ℕ) (s more : List ℕ) → 4 ≤ k → k ≤ 6 → p ≤ length u → drop p u ≡ s ++ more → value_of t u k (p + 32768) (length s) ≡ text s
-unfolding value_of if◌then◌else◌
+unfolding value_of when◌then◌else◌
 a_text t u k p s more a b l e =
     let q : p + 32768 - 32768 ≡ p = omega arith in
     rw (le-leb 4 k a, le-leb k 6 b) (ap text (part_second t u (p + 32768) (length s) (omega arith) ∙ ap (λ j. part_at u j (length s)) q ∙ part_there u s more p (length s) l refl e))

@@ -8,7 +8,7 @@ use mathlib.Core.List.{List, [], ◌∷◌, ◌++◌, append_assoc}
 use lib.ListN.{length, take, drop, get_or, length-append, length-drop, get_or-append}
 use lib.Seq.{get_or-drop, take_at, drop-append_seam}
 use borrow.Author.Tests.{ne_eqb}
-use Rattle.paper.specs.Bytes.{if◌then◌else◌}
+use Rattle.paper.specs.Bytes.{when◌then◌else◌}
 use Rattle.paper.specs.Syntax.{Name, Path, Basic, boolean, null, integer, decimal, string, reference, vector}
 use Rattle.paper.specs.Layout.{little, name_text, names_text, path_text, long_text, kind, content, text_of}
 use Rattle.paper.specs.WellFormed.{IsBasic}
@@ -39,7 +39,7 @@ byte_there s more p b e = ap (λ k. get_or s k 0) (sym (add-zero p)) ∙ sym (ge
 -- ---- names and paths
 
 pub name_size_text : (text : List ℕ) (p : ℕ) (n : Name) (more : List ℕ) → (p ≡ 65535 → ⊥) → drop p text ≡ name_text n ++ more → name_size text p ≡ length (name_text n)
-unfolding name_size name_text if◌then◌else◌
+unfolding name_size name_text when◌then◌else◌
 name_size_text text p n more h e = rw (ne_eqb p 65535 h) (omega (arith, byte_there text (n ++ more) p (length n) e))
 
 names_size_text : (r : Path) (more : List ℕ) → names_size (length r) (names_text r ++ more) ≡ length (names_text r)
@@ -63,7 +63,7 @@ unfolding long_text
 long_word text p x more h e = word_there 2 (length x) text (x ++ more) p (omega arith) h (e ∙ append_assoc (little 2 (length x)) x more)
 
 pub value_size_content : (b : Basic) (text : List ℕ) (p : ℕ) (more : List ℕ) → IsBasic b → drop p text ≡ text_of (content b) ++ more → value_size text (kind b) p ≡ length (text_of (content b))
-unfolding value_size kind content text_of if◌then◌else◌
+unfolding value_size kind content text_of when◌then◌else◌
 value_size_content (boolean false) text p more h e = refl
 value_size_content (boolean true) text p more h e = refl
 value_size_content null text p more h e = refl

@@ -7,7 +7,7 @@ use mathlib.Core.Path.{◌≡◌, refl, sym, ◌∙◌, ap}
 use mathlib.Core.List.{List, ◌++◌, append_assoc, append-nil}
 use lib.ListN.{length, take, drop, get_or, length-append}
 use borrow.Author.Tests.{le-leb, lt-leb, eq-eqb, ne_eqb, lt-ltb, le-ltb}
-use Rattle.paper.specs.Bytes.{if◌then◌else◌}
+use Rattle.paper.specs.Bytes.{when◌then◌else◌}
 use Rattle.paper.specs.Layout.{little}
 use Rattle.theorems.proofs.Decoded.Parts.{length_little}
 use Rattle.paper.specs.DecodeAt.{word, headed}
@@ -93,31 +93,31 @@ header_stored s₀ s₁ s₂ s₃ s₄ s₅ s₆ a b c d e f h e₁ e₂ e₃ e�
 -- ---- places
 
 pub label_none : (from l : ℕ) → l ≡ 65535 → l ≡ moved_label from l
-unfolding moved_label if◌then◌else◌
+unfolding moved_label when◌then◌else◌
 label_none from l e = rw (eq-eqb l 65535 e)
 
 pub label_some : (from l r : ℕ) → (l ≡ 65535 → ⊥) → r ≡ l - from → r ≡ moved_label from l
-unfolding moved_label if◌then◌else◌
+unfolding moved_label when◌then◌else◌
 label_some from l r h e = rw (ne_eqb l 65535 h) e
 
 pub value_low : (from k v : ℕ) → k < 4 → v ≡ moved_value from k v
-unfolding moved_value if◌then◌else◌
+unfolding moved_value when◌then◌else◌
 value_low from k v h = rw (lt-leb 4 k h)
 
 pub value_high : (from k v : ℕ) → 4 ≤ k → 6 < k → v ≡ moved_value from k v
-unfolding moved_value if◌then◌else◌
+unfolding moved_value when◌then◌else◌
 value_high from k v g h = rw (le-leb 4 k g, lt-leb k 6 h)
 
 pub value_text : (from k v r : ℕ) → 4 ≤ k → k ≤ 6 → r ≡ v - from → r ≡ moved_value from k v
-unfolding moved_value if◌then◌else◌
+unfolding moved_value when◌then◌else◌
 value_text from k v r g h e = rw (le-leb 4 k g, le-leb k 6 h) e
 
 pub to_next : (recs text : List ℕ) (j r : ℕ) → j < length recs → r ≡ word 2 recs (j + 4) → r ≡ text_to recs text j
-unfolding text_to if◌then◌else◌
+unfolding text_to when◌then◌else◌
 to_next recs text j r h e = rw (lt-ltb j (length recs) h) e
 
 pub to_end : (recs text : List ℕ) (j : ℕ) → length recs ≤ j → length text ≡ text_to recs text j
-unfolding text_to if◌then◌else◌
+unfolding text_to when◌then◌else◌
 to_end recs text j h = rw (le-ltb j (length recs) h)
 
 pub from_is : (recs text : List ℕ) (i p b : ℕ) → p ≡ word 2 recs (i + 4) → b ≡ get_or text p 0 → p + 1 + b ≡ text_from recs text i

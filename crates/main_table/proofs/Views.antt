@@ -8,7 +8,7 @@ use mathlib.Core.List.{List, []}
 use mathlib.Core.Option.{Option, none, some}
 use lib.ListN.{length}
 use borrow.Author.Tests.{eq-eqb, ne_eqb}
-use Rattle.paper.specs.Bytes.{if◌then◌else◌}
+use Rattle.paper.specs.Bytes.{when◌then◌else◌}
 use Rattle.paper.specs.Maybe.{require}
 use Rattle.paper.specs.Syntax.{Basic}
 use Rattle.paper.specs.Store.{Store, Value, component}
@@ -38,14 +38,14 @@ use Rattle.memory.proofs.Laws.{word_below}
 
 module _ (recs text : List ℕ) (d j q : ℕ) (v : Value) (at : Cursor) (w : value_here recs text d j q ≡ some (v, at)) where
   pub basic_of : (word 2 recs j ≡ 0 → ⊥) → (b : Basic) × (v ≡ S.basic b) × (basic_from in_table d (word 2 recs j) (word 2 recs (j + 6)) (word 8 recs (j + 8)) (cursor recs text (j + 16) q) ≡ some (b, at))
-  unfolding entry_value raw_at if◌then◌else◌
+  unfolding entry_value raw_at when◌then◌else◌
   basic_of h =
       let z = ne_eqb (word 2 recs j) 0 h in
       let x = bind_some (basic_from in_table d (word 2 recs j) (word 2 recs (j + 6)) (word 8 recs (j + 8)) (cursor recs text (j + 16) q)) _ _ (rw z at w) in
       (x.0.0, sym (ap (λ y. y.0) (some_is _ _ x.2)), x.1 ∙ ap (λ c. some (x.0.0, c)) (ap (λ y. y.1) (some_is _ _ x.2)))
 
   pub component_of : word 2 recs j ≡ 0 → (c : Store) × (v ≡ component c) × (entries_here recs text (suc d) (word 2 recs (j + 6) - 1) (j + 16) q ≡ some (c, at))
-  unfolding entry_value raw_at if◌then◌else◌
+  unfolding entry_value raw_at when◌then◌else◌
   component_of h =
       let z = eq-eqb (word 2 recs j) 0 h in
       let y = bind_some (require _) _ _ (rw z at w) in

@@ -1,17 +1,17 @@
 -- The table of a component's attributes, from the records and the text that they have in a whole table: the records one less deep, and
 -- the places in the text less by where the component's own begins. Assumes nothing.
 use Rattle.std.specs.Prelude.{ℕ, zero, suc, ◌+◌, ◌-◌, ◌*◌, ◌≤◌, ◌<◌, ◌&&◌, List, [], ◌++◌, length, take, drop, get_or, leb, ltb, eqb}
-use Rattle.paper.specs.Bytes.{if◌then◌else◌}
+use Rattle.paper.specs.Bytes.{when◌then◌else◌}
 use Rattle.paper.specs.Layout.{little}
 use Rattle.paper.specs.DecodeAt.{word, headed}
 
 -- a name's place; 65,535 is none
 unfoldable pub moved_label : ℕ → ℕ → ℕ
-moved_label from l = if eqb l 65535 then l else l - from
+moved_label from l = when eqb l 65535 then l else l - from
 
 -- a value, which is a place for kinds 4 to 6
 unfoldable pub moved_value : ℕ → ℕ → ℕ → ℕ
-moved_value from k v = if leb 4 k && leb k 6 then v - from else v
+moved_value from k v = when leb 4 k && leb k 6 then v - from else v
 
 -- the record at i
 unfoldable pub lowered : List ℕ → ℕ → ℕ → List ℕ
@@ -30,7 +30,7 @@ text_from recs text i = word 2 recs (i + 4) + 1 + get_or text (word 2 recs (i + 
 
 -- where the text of the records before j ends: where that of the next begins, or at the end
 unfoldable pub text_to : List ℕ → List ℕ → ℕ → ℕ
-text_to recs text j = if ltb j (length recs) then word 2 recs (j + 4) else length text
+text_to recs text j = when ltb j (length recs) then word 2 recs (j + 4) else length text
 
 -- the bytes of the table of the component at i
 unfoldable pub lowered_table : List ℕ → List ℕ → ℕ → List ℕ

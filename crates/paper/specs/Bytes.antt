@@ -1,4 +1,4 @@
--- Bytes: quoted text as bytes (ASCII only), tests on a byte, and `if`. Assumes nothing.
+-- Bytes: quoted text as bytes (ASCII only), tests on a byte, and a choice by a test. Assumes nothing.
 use Rattle.std.specs.Prelude.{ℕ, Bool, true, false, ◌&&◌, ◌||◌, List, [] as []ᴸ, ◌∷◌ as ◌∷ᴸ◌, leb, eqb, get_or}
 use Prim.Native.Char.{Char, code}
 use Prim.Native.String.{String, [], ◌∷◌}
@@ -30,8 +30,8 @@ same []ᴸ (y ∷ᴸ t) = false
 same (x ∷ᴸ s) []ᴸ = false
 same (x ∷ᴸ s) (y ∷ᴸ t) = eqb x y && same s t
 
-infix 10 if◌then◌else◌
+infix 10 when◌then◌else◌
 -- both branches are computed: no recursive call stands in one, unless it waits behind a λ
-unfoldable pub if◌then◌else◌ {ℓ} : {A : Type ℓ} → Bool → A → A → A
-if true then a else b = a
-if false then a else b = b
+unfoldable pub when◌then◌else◌ {ℓ} : {A : Type ℓ} → Bool → A → A → A
+when true then a else b = a
+when false then a else b = b

@@ -2,7 +2,7 @@
 -- Assumes nothing.
 use Rattle.std.specs.Prelude.{ℕ, suc, ◌+◌, ◌*◌, ◌-◌, length, eqb}
 use Rattle.std.proofs.Math.Option.{Option, some}
-use Rattle.paper.specs.Bytes.{if◌then◌else◌}
+use Rattle.paper.specs.Bytes.{when◌then◌else◌}
 use Rattle.paper.specs.Maybe.{◌>>=◌, require}
 use Rattle.paper.specs.Syntax.{Basic, Basics, Block, Value, Prototypes}
 use Rattle.paper.specs.Store.{Store, component}
@@ -24,7 +24,7 @@ elements_from form d n at = elements_at (2 * length at.recs + 2) form d n at
 -- an attribute's value, by the readers of basics and of attributes
 unfoldable pub entry_value : (ℕ → ℕ → ℕ → ℕ → Cursor → Option (Basic × Cursor)) → (ℕ → ℕ → Cursor → Option (Store × Cursor)) → ℕ → Raw → Cursor → Option (S.Value × Cursor)
 entry_value B E d x at =
-    if eqb x.first 0
+    when eqb x.first 0
     then (do
       _ ← require (eqb x.value 0)
       (c, at) ← E (suc d) (x.span - 1) at

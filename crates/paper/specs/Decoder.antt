@@ -5,7 +5,7 @@
 -- Assumes nothing.
 use Rattle.std.specs.Prelude.{ℕ, zero, suc, ◌+◌, ◌*◌, ◌-◌, ◌^◌, Bool, true, false, not, ◌&&◌, List, [], ◌∷◌, length, take, drop, ℤ, pos, negsuc, leb, ltb, eqb}
 use Rattle.std.proofs.Math.Option.{Option, none, some}
-use Rattle.paper.specs.Bytes.{if◌then◌else◌}
+use Rattle.paper.specs.Bytes.{when◌then◌else◌}
 use Rattle.paper.specs.Maybe.{◌>>=◌, require}
 use Rattle.paper.specs.Syntax.{Name, Path, Basic, boolean, null, integer, decimal, string, reference, vector, Basics, εⱽ, ◌∷ⱽ◌}
 use Rattle.paper.specs.Tokens.{reserved, member, name, literal, mark, end}
@@ -76,7 +76,7 @@ string_of s = do
 
 -- the integer that 64 bits are
 unfoldable pub signed : ℕ → ℤ
-signed x = if ltb x (2 ^ 63) then pos x else negsuc (2 ^ 64 - 1 - x)
+signed x = when ltb x (2 ^ 63) then pos x else negsuc (2 ^ 64 - 1 - x)
 
 -- ---- records
 
@@ -122,12 +122,12 @@ field p place at = do
 -- a basic of kind k and value v that is no vector
 unfoldable pub leaf : ℕ → ℕ → Cursor → Option (Basic × Cursor)
 leaf k v at =
-    if eqb k 1 then (do _ ← require (leb v 1); some (boolean (eqb v 1), at)) else
-    if eqb k 2 then (do _ ← require (eqb v 0); some (null, at)) else
-    if eqb k 3 then some (integer (signed v), at) else
-    if eqb k 4 then (do (t, at) ← field decimal_of v at; some (decimal t, at)) else
-    if eqb k 5 then (do (t, at) ← field string_of v at; some (string t, at)) else
-    if eqb k 6 then (do (r, at) ← field path_of v at; some (reference r, at)) else
+    when eqb k 1 then (do _ ← require (leb v 1); some (boolean (eqb v 1), at)) else
+    when eqb k 2 then (do _ ← require (eqb v 0); some (null, at)) else
+    when eqb k 3 then some (integer (signed v), at) else
+    when eqb k 4 then (do (t, at) ← field decimal_of v at; some (decimal t, at)) else
+    when eqb k 5 then (do (t, at) ← field string_of v at; some (string t, at)) else
+    when eqb k 6 then (do (r, at) ← field path_of v at; some (reference r, at)) else
     none
 
 -- how vectors stand in tables and in step lists: the width of a record's last number, how deep a vector may stand,
@@ -143,7 +143,7 @@ unfoldable mutual
   pub basic_at : ℕ → Form → ℕ → ℕ → ℕ → ℕ → Cursor → Option (Basic × Cursor)
   basic_at zero form d k m v at = none
   basic_at (suc f) form d k m v at =
-      if eqb k 7
+      when eqb k 7
       then (do
         _ ← require (eqb v 0)
         _ ← require (leb d form.top)

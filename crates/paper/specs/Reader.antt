@@ -5,7 +5,7 @@
 use Rattle.std.specs.Prelude.{ℕ, zero, suc, ◌+◌, ◌*◌, ◌-◌, Bool, true, false, List, [], ◌∷◌, length, leb, ltb}
 use Prim.Native.Char.{Char}
 use Prim.Native.String.{String}
-use Rattle.paper.specs.Bytes.{bytes, same, if◌then◌else◌}
+use Rattle.paper.specs.Bytes.{bytes, same, when◌then◌else◌}
 use Rattle.paper.specs.Answer.{Answer, ok, refused, demand, ◌>>=◌}
 use Rattle.paper.specs.Syntax.{Path, Basic, boolean, null, reference, vector, Basics, εⱽ, ◌∷ⱽ◌, Block, εᴮ, ◌∷ᴮ◌, assign, Value, basic, link, extends, Prototypes, εᴾ, named, block}
 use Rattle.paper.specs.Tokens.{Token, name, literal, mark, end, is_name, is_mark, Here}
@@ -46,7 +46,7 @@ names (suc k) at = do
   (t, h, after) ← next at
   _ ← demand (is_name t) 3 h.place
   (u, _, _) ← next after
-  if is_mark ":" u
+  when is_mark ":" u
       then (do
         at ← expect ":" after
         (ns, at) ← names k at
@@ -61,10 +61,10 @@ path = names 32
 -- "Basic: true, false, NULL, integer, decimal, string, `DATA` reference": one that begins with the word t
 unfoldable pub word : Token → Here → Here → Answer (Basic × Here)
 word t h after =
-    if is_word "true" t then ok (boolean true, after) else
-    if is_word "false" t then ok (boolean false, after) else
-    if is_word "NULL" t then ok (null, after) else
-    if is_word "DATA" t then (do (r, at) ← path after; ok (reference r, at)) else
+    when is_word "true" t then ok (boolean true, after) else
+    when is_word "false" t then ok (boolean false, after) else
+    when is_word "NULL" t then ok (null, after) else
+    when is_word "DATA" t then (do (r, at) ← path after; ok (reference r, at)) else
     refused 3 h.place
 
 unfoldable mutual
@@ -80,7 +80,7 @@ unfoldable mutual
         at ← expect "[" at
         _ ← demand (ltb 0 d) 5 h.place
         (u, _, closed) ← next at
-        if is_mark "]" u then ok (vector εⱽ, closed) else (do
+        when is_mark "]" u then ok (vector εⱽ, closed) else (do
           (bs, at) ← basics f (d - 1) at
           ok (vector bs, at))
       | end ↦ refused 3 h.place
@@ -92,7 +92,7 @@ unfoldable mutual
   basics (suc f) d at = do
     (b, at) ← basic_at f d at
     (t, _, _) ← next at
-    if is_mark "," t
+    when is_mark "," t
         then (do
           at ← expect "," at
           (bs, at) ← basics f d at
@@ -109,7 +109,7 @@ unfoldable mutual
   statements zero d at = refused 0 0
   statements (suc f) d at = do
     (t, h, _) ← next at
-    if is_name t
+    when is_name t
         then (do
           (r, at) ← path at
           (v, at) ← value f d h.place at
@@ -122,12 +122,12 @@ unfoldable mutual
   value zero d p at = refused 0 0
   value (suc f) d p at = do
     (t, h, _) ← next at
-    if is_word "extends" t
+    when is_word "extends" t
         then (do
           at ← expect_word "extends" at
           (ps, at) ← prototypes f d at
           ok (extends p ps, at))
-        else if is_name t then (do
+        else when is_name t then (do
           (r, at) ← path at
           at ← expect ";" at
           ok (link h.place r, at))
@@ -141,11 +141,11 @@ unfoldable mutual
   prototypes zero d at = refused 0 0
   prototypes (suc f) d at = do
     (t, h, _) ← next at
-    if is_name t
+    when is_name t
         then (do
           (r, at) ← path at
           (u, _, _) ← next at
-          if is_mark "," u
+          when is_mark "," u
               then (do
                 at ← expect "," at
                 (ps, at) ← prototypes f d at
@@ -159,7 +159,7 @@ unfoldable mutual
           (b, at) ← statements f (d - 1) at
           at ← expect "}" at
           (u, _, _) ← next at
-          if is_mark "," u
+          when is_mark "," u
               then (do
                 at ← expect "," at
                 (ps, at) ← prototypes f d at

@@ -1,7 +1,7 @@
 -- The scanner (document 01, "Tokens"): from the rest of the source to the token at its front, or to 2, 4 or 6. Assumes nothing.
 use Rattle.std.specs.Prelude.{ℕ, zero, suc, ◌+◌, ◌*◌, ◌-◌, Bool, true, false, not, ◌&&◌, ◌||◌, List, [], ◌∷◌, length, take, drop, leb, ltb, eqb}
 use Rattle.std.proofs.Math.Option.{Option, none, some}
-use Rattle.paper.specs.Bytes.{at, is, among, between, if◌then◌else◌}
+use Rattle.paper.specs.Bytes.{at, is, among, between, when◌then◌else◌}
 use Rattle.paper.specs.Answer.{Answer, ok, refused, ◌>>=◌}
 use Rattle.paper.specs.Syntax.{integer, decimal, string}
 use Rattle.paper.specs.Tokens.{blank, digit, octal, starts, goes_on, in_range, valued, escaped, Token, name, literal, mark, end, Here}
@@ -30,9 +30,9 @@ closing (b ∷ s) = elim (is "*" b && is "/" (at s 0)) [ true ↦ some 2 | false
 -- 0 where none stands here, and none for a comment that is not closed
 unfoldable pub gap : List ℕ → Option ℕ
 gap s =
-    if blank (at s 0) then some 1 else
-    if is "/" (at s 0) && is "/" (at s 1) then some (2 + span (λ b. not (is "\n" b)) (drop 2 s)) else
-    if is "/" (at s 0) && is "*" (at s 1) then elim (closing (drop 2 s)) [ none ↦ none | some n ↦ some (2 + n) ] else
+    when blank (at s 0) then some 1 else
+    when is "/" (at s 0) && is "/" (at s 1) then some (2 + span (λ b. not (is "\n" b)) (drop 2 s)) else
+    when is "/" (at s 0) && is "*" (at s 1) then elim (closing (drop 2 s)) [ none ↦ none | some n ↦ some (2 + n) ] else
     some 0
 
 -- where the next token stands; "(none: 2 at its first byte)" for `/*` with no `*/`.
@@ -55,39 +55,39 @@ pub data Scanned : Type 0 where
 
 -- "1 to 255 bytes"
 unfoldable pub named : ℕ → List ℕ → Scanned
-named n s = if leb n 255 then token (name (take n s)) n else fault 6
+named n s = when leb n 255 then token (name (take n s)) n else fault 6
 
 -- n bytes and the digits after them; 0 where there are none
 unfoldable pub digits_after : ℕ → List ℕ → ℕ
 digits_after n s = elim (span digit (drop n s)) [ zero ↦ 0 | suc k ↦ n + suc k ]
 
 unfoldable pub sign : (ℕ → Bool) → ℕ → ℕ
-sign p b = if p b then 1 else 0
+sign p b = when p b then 1 else 0
 
 -- "an optional minus and one or more digits"; "`.` and digits"; "`e`/`E` with optional sign and digits": the length of each at the front
 unfoldable pub whole : List ℕ → ℕ
 whole s = digits_after (sign (is "-") (at s 0)) s
 
 unfoldable pub fraction : List ℕ → ℕ
-fraction s = if is "." (at s 0) then digits_after 1 s else 0
+fraction s = when is "." (at s 0) then digits_after 1 s else 0
 
 unfoldable pub exponent : List ℕ → ℕ
-exponent s = if among "eE" (at s 0) then digits_after (1 + sign (among "+-") (at s 1)) s else 0
+exponent s = when among "eE" (at s 0) then digits_after (1 + sign (among "+-") (at s 1)) s else 0
 
 -- the number at the front of s, whose integer part has n bytes, and which has m bytes in all:
 -- "it may not be followed at once by a name byte or `.`"; a decimal has at most 4,095 bytes
 unfoldable pub number : ℕ → ℕ → List ℕ → Scanned
 number n m s =
-    if eqb n 0 || goes_on (at s m) || is "." (at s m) then fault 2 else
-    if ltb n m then (if leb m 4095 then token (literal (decimal (take m s))) m else fault 6) else
-    if in_range (valued (take n s)) then token (literal (integer (valued (take n s)))) n else fault 4
+    when eqb n 0 || goes_on (at s m) || is "." (at s m) then fault 2 else
+    when ltb n m then (when leb m 4095 then token (literal (decimal (take m s))) m else fault 6) else
+    when in_range (valued (take n s)) then token (literal (integer (valued (take n s)))) n else fault 4
 
 -- a byte of a string: "no raw LF or CR"; "three octal digits, the first 0 to 3". The byte that is meant, and how many bytes mean it
 unfoldable pub meant : List ℕ → Option (ℕ × ℕ)
 meant s =
-    if among "\n\r" (at s 0) || empty s then none else
-    if not (is "\\" (at s 0)) then some (at s 0, 1) else
-    if between "0" "3" (at s 1) && octal (at s 2) && octal (at s 3) then some ((at s 1 - 48) * 64 + (at s 2 - 48) * 8 + (at s 3 - 48), 4) else
+    when among "\n\r" (at s 0) || empty s then none else
+    when not (is "\\" (at s 0)) then some (at s 0, 1) else
+    when between "0" "3" (at s 1) && octal (at s 2) && octal (at s 3) then some ((at s 1 - 48) * 64 + (at s 2 - 48) * 8 + (at s 3 - 48), 4) else
     elim (escaped (at s 1)) [ none ↦ none | some b ↦ some (b, 2) ]
 
 -- the bytes up to the closing `"`, as meant, and how many bytes of the source they are, it included
@@ -105,17 +105,17 @@ quoted (suc f) s =
 -- "Decoded, at most 4,095 bytes"
 unfoldable pub text : Option (List ℕ × ℕ) → Scanned
 text none = fault 2
-text (some r) = if leb (length r.0) 4095 then token (literal (string r.0)) (suc r.1) else fault 6
+text (some r) = when leb (length r.0) 4095 then token (literal (string r.0)) (suc r.1) else fault 6
 
 -- the token at the front of s, nothing being skipped: "The longest number is taken"
 unfoldable pub scan : List ℕ → Scanned
 scan s =
     let b = at s 0 in
-    if empty s then token end 0 else
-    if starts b then named (span goes_on s) s else
-    if digit b || is "-" b then (let n = whole s in let m = n + fraction (drop n s) in number n (m + exponent (drop m s)) s) else
-    if is "\"" b then text (quoted (length s) (drop 1 s)) else
-    if among ";,{}[]:" b then token (mark b) 1 else
+    when empty s then token end 0 else
+    when starts b then named (span goes_on s) s else
+    when digit b || is "-" b then (let n = whole s in let m = n + fraction (drop n s) in number n (m + exponent (drop m s)) s) else
+    when is "\"" b then text (quoted (length s) (drop 1 s)) else
+    when among ";,{}[]:" b then token (mark b) 1 else
     fault 2
 
 -- ---- the next token

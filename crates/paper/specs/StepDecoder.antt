@@ -1,7 +1,7 @@
 -- The reader of step lists: the block whose step list the bytes are, or nothing. Assumes nothing.
 use Rattle.std.specs.Prelude.{ℕ, zero, suc, ◌+◌, ◌*◌, Bool, true, false, ◌&&◌, ◌||◌, List, length, leb, ltb, eqb}
 use Rattle.std.proofs.Math.Option.{Option, none, some}
-use Rattle.paper.specs.Bytes.{if◌then◌else◌}
+use Rattle.paper.specs.Bytes.{when◌then◌else◌}
 use Rattle.paper.specs.Scanner.{empty}
 use Rattle.paper.specs.Maybe.{◌>>=◌, require}
 use Rattle.paper.specs.Syntax.{Block, εᴮ, ◌∷ᴮ◌, assign, Value, basic, link, extends, Prototypes, εᴾ, named, block}
@@ -44,7 +44,7 @@ unfoldable mutual
   pub statements_at : ℕ → ℕ → Cursor → Option (Block × Cursor)
   statements_at zero d at = none
   statements_at (suc f) d at =
-      if stops at then some (εᴮ, at) else (do
+      when stops at then some (εᴮ, at) else (do
         (x, at) ← record_at 4 at
         _ ← require (ltb x.place 32768)
         (r, at) ← field path_of x.label at
@@ -56,11 +56,11 @@ unfoldable mutual
   pub value_at : ℕ → ℕ → Raw → Cursor → Option (Value × Cursor)
   value_at zero d x at = none
   value_at (suc f) d x at =
-      if eqb x.first 6 then (do
+      when eqb x.first 6 then (do
         _ ← require (leb 1 x.span)
         (b, at) ← basic_at f in_steps d x.second x.span x.value at
         some (basic x.place b, at)) else
-      if eqb x.first 8 then (do
+      when eqb x.first 8 then (do
         _ ← plain 8 x
         (l, at) ← field path_of x.value at
         some (link x.place l, at)) else (do
@@ -75,13 +75,13 @@ unfoldable mutual
   prototypes_at zero d at = none
   prototypes_at (suc f) d at = do
     (x, at) ← record_at 4 at
-    if eqb x.first 2 then (do
+    when eqb x.first 2 then (do
       _ ← plain 2 x
       _ ← require (eqb x.value 0)
       (l, at) ← field path_of x.label at
       (ps, at) ← prototypes_at f d at
       some (named x.place l ps, at)) else
-        if eqb x.first 3 then (do
+        when eqb x.first 3 then (do
           _ ← bare 3 x
           _ ← require (ltb d 32)
           (b, at) ← statements_at f (suc d) at

@@ -1,7 +1,7 @@
 -- The reader of tables: the store whose table the bytes are, or nothing. Assumes nothing.
 use Rattle.std.specs.Prelude.{ℕ, zero, suc, ◌+◌, ◌*◌, ◌-◌, Bool, true, false, ◌&&◌, List, length, leb, eqb}
 use Rattle.std.proofs.Math.Option.{Option, none, some}
-use Rattle.paper.specs.Bytes.{if◌then◌else◌}
+use Rattle.paper.specs.Bytes.{when◌then◌else◌}
 use Rattle.paper.specs.Maybe.{◌>>=◌, require}
 use Rattle.paper.specs.Store.{Store, ∅, entry, component, lookup}
 use Rattle.paper.specs.Store as S
@@ -23,7 +23,7 @@ entries_at (suc f) d n at =
         _ ← require (leb 1 x.span)
         _ ← require (leb x.span (suc k))
         (n, at) ← field name_of x.label at
-        (v, at) ← if eqb x.first 0
+        (v, at) ← when eqb x.first 0
             then (do
               _ ← require (eqb x.value 0)
               (c, at) ← entries_at f (suc d) (x.span - 1) at

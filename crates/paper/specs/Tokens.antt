@@ -2,7 +2,7 @@
 use Rattle.std.specs.Prelude.{ℕ, ◌+◌, ◌*◌, ◌-◌, ◌^◌, Bool, false, not, ◌||◌, List, [], ◌∷◌, drop, ℤ, pos, negsuc, neg_ℤ, ltb}
 use Prim.Native.Char.{Char}
 use Rattle.std.proofs.Math.Option.{Option, none, some}
-use Rattle.paper.specs.Bytes.{bytes, at, is, among, between, same, if◌then◌else◌}
+use Rattle.paper.specs.Bytes.{bytes, at, is, among, between, same, when◌then◌else◌}
 use Rattle.paper.specs.Syntax.{Basic}
 
 -- "Skipped: space, tab, LF, CR, FF"
@@ -38,7 +38,7 @@ count n [] = n
 count n (b ∷ s) = count (n * 10 + (b - 48)) s
 
 unfoldable pub valued : List ℕ → ℤ
-valued s = if is "-" (at s 0) then neg_ℤ (pos (count 0 (drop 1 s))) else pos (count 0 s)
+valued s = when is "-" (at s 0) then neg_ℤ (pos (count 0 (drop 1 s))) else pos (count 0 s)
 
 -- "from -9223372036854775808 to 9223372036854775807"
 unfoldable pub in_range : ℤ → Bool
@@ -48,12 +48,12 @@ in_range (negsuc n) = ltb n (2 ^ 63)
 -- "escapes `\n \t \b \r \f \\ \" \'`": the byte that is meant
 unfoldable pub escaped : ℕ → Option ℕ
 escaped b =
-    if is "n" b then some 10 else
-    if is "t" b then some 9 else
-    if is "b" b then some 8 else
-    if is "r" b then some 13 else
-    if is "f" b then some 12 else
-    if among "\\\"'" b then some b else
+    when is "n" b then some 10 else
+    when is "t" b then some 9 else
+    when is "b" b then some 8 else
+    when is "r" b then some 13 else
+    when is "f" b then some 12 else
+    when among "\\\"'" b then some b else
     none
 
 -- A name (or a reserved word), an integer, decimal or string with what it says, one of the marks `; , { } [ ] :`, or the end.

@@ -7,7 +7,7 @@ use mathlib.Core.List.{List}
 use lib.ListN.{length, take, length-append}
 use lib.Dec.{leb}
 use borrow.Author.Tests.{le-leb, leb-true, not-true, not-false}
-use Rattle.paper.specs.Bytes.{if◌then◌else◌}
+use Rattle.paper.specs.Bytes.{when◌then◌else◌}
 use Rattle.memory.specs.Memory.{stored, slid, part_at}
 use Rattle.memory.proofs.Laws.{stored_none, then_stored, part_in}
 use Rattle.rows.specs.Change.{field_at, row_bytes, row_stored, fits_in, spliced, moved, lifted, lifts_in, lift_stored}
@@ -40,11 +40,11 @@ fits_of size n i e have m q h =
 
 module _ (w : List ℕ) (n i e : ℕ) (s : List ℕ) (m : ℕ) where
   pub unfit : {r : Bool} → r ≡ Test (length w) n i e (length s) m → not r ≡ true → spliced w n i e s m ≡ w
-  unfolding spliced fits_in if◌then◌else◌
+  unfolding spliced fits_in when◌then◌else◌
   unfit q h = let no : Test (length w) n i e (length s) m ≡ false = sym q ∙ not-true _ h in rw no
 
   pub fit_spliced : Fits (length w) n i e (length s) m → spliced w n i e s m ≡ stored (slid w (e * 16) ((i + m) * 16) ((n - e) * 16)) (i * 16) (take (m * 16) s)
-  unfolding spliced fits_in if◌then◌else◌
+  unfolding spliced fits_in when◌then◌else◌
   fit_spliced F = rw (le-leb i e F.order, le-leb e n F.inside, le-leb (n + m) 4096 F.few, le-leb ((n + m) * 16) (length w) F.room, le-leb (m * 16) (length s) F.given)
 
   -- the bytes moved, and the new ones copied
@@ -83,11 +83,11 @@ lifts_of size p e have q to k h =
 
 module _ (w : List ℕ) (p e : ℕ) (s : List ℕ) (q from to : ℕ) where
   pub unlifted : {r : Bool} → r ≡ LiftTest (length w) p e (length s) q to → not r ≡ true → lift_stored w p e s q from to ≡ s
-  unfolding lift_stored lifts_in if◌then◌else◌
+  unfolding lift_stored lifts_in when◌then◌else◌
   unlifted k h = let no : LiftTest (length w) p e (length s) q to ≡ false = sym k ∙ not-true _ h in rw no
 
   pub lifted_is : Lifts (length w) p e (length s) q to → lift_stored w p e s q from to ≡ stored s (q * 16) (lifted w from to p (e - p))
-  unfolding lift_stored lifts_in if◌then◌else◌
+  unfolding lift_stored lifts_in when◌then◌else◌
   lifted_is L =
       rw (le-leb p e L.order, le-leb e 4096 L.few, le-leb (e * 16) (length w) L.room, le-leb (q + (e - p)) 4096 L.short, le-leb ((q + (e - p)) * 16) (length s) L.place, le-leb to 65535 L.low)
 

@@ -6,7 +6,7 @@ use mathlib.Core.Path.{◌≡◌, sym, ap, ◌∙◌}
 use mathlib.Core.List.{List, ◌++◌, append_assoc}
 use lib.ListN.{length, get_or, length-append}
 use borrow.Author.Tests.{le-leb, lt-leb}
-use Rattle.paper.specs.Bytes.{if◌then◌else◌}
+use Rattle.paper.specs.Bytes.{when◌then◌else◌}
 use Rattle.paper.specs.Layout.{little}
 use Rattle.paper.specs.DecodeAt.{word}
 use Rattle.theorems.proofs.Decoded.Parts.{length_little}
@@ -17,19 +17,19 @@ use Rattle.rows.specs.Change.{field_at, row_bytes, row_stored}
 -- ---- by cases: a row that a work slice has, and one that it has not
 
 pub field_in : (n : ℕ) (w : List ℕ) (i f : ℕ) → i ≤ 4095 → field_at n w i f ≡ word_at n w (i * 16 + f)
-unfolding field_at if◌then◌else◌
+unfolding field_at when◌then◌else◌
 field_in n w i f h = rw (le-leb i 4095 h)
 
 pub field_out : (n : ℕ) (w : List ℕ) (i f : ℕ) → 4095 < i → field_at n w i f ≡ 0
-unfolding field_at if◌then◌else◌
+unfolding field_at when◌then◌else◌
 field_out n w i f h = rw (lt-leb i 4095 h)
 
 pub row_in : (w : List ℕ) (i : ℕ) (b : List ℕ) → i ≤ 4095 → row_stored w i b ≡ stored w (i * 16) b
-unfolding row_stored if◌then◌else◌
+unfolding row_stored when◌then◌else◌
 row_in w i b h = rw (le-leb i 4095 h)
 
 pub row_out : (w : List ℕ) (i : ℕ) (b : List ℕ) → 4095 < i → row_stored w i b ≡ w
-unfolding row_stored if◌then◌else◌
+unfolding row_stored when◌then◌else◌
 row_out w i b h = rw (lt-leb i 4095 h)
 
 -- a number of a row that is there

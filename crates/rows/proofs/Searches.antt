@@ -11,7 +11,7 @@ use lib.ListN.{length, take, drop}
 use lib.Seq.{take-nil}
 use lib.Dec.{ltb, eqb}
 use borrow.Author.Tests.{lt-ltb, le-ltb, eq-eqb, ne_eqb}
-use Rattle.paper.specs.Bytes.{if◌then◌else◌}
+use Rattle.paper.specs.Bytes.{when◌then◌else◌}
 use Rattle.paper.specs.Syntax.{Name}
 use Rattle.paper.specs.Layout.{Row, deepest}
 use Rattle.paper.specs.DecodeAt.{word}
@@ -26,34 +26,34 @@ use Rattle.rows.specs.Change.{row_here}
 
 module _ (name : Name) (d : ℕ) (x : Row) (xs : List Row) (i : ℕ) where
   pub seek_above : x.second < d → seek name d (x ∷ xs) i ≡ none
-  unfolding seek if◌then◌else◌
+  unfolding seek when◌then◌else◌
   seek_above h = rw (lt-ltb x.second d h)
 
   pub seek_hit : x.second ≡ d → calls x.label name ≡ true → seek name d (x ∷ xs) i ≡ some i
-  unfolding seek if◌then◌else◌
+  unfolding seek when◌then◌else◌
   seek_hit h e = rw (le-ltb x.second d (omega arith), eq-eqb x.second d h, e)
 
   pub seek_other : x.second ≡ d → calls x.label name ≡ false → seek name d (x ∷ xs) i ≡ seek name d xs (suc i)
-  unfolding seek if◌then◌else◌
+  unfolding seek when◌then◌else◌
   seek_other h e = rw (le-ltb x.second d (omega arith), eq-eqb x.second d h, e)
 
   pub seek_under : d < x.second → seek name d (x ∷ xs) i ≡ seek name d xs (suc i)
-  unfolding seek if◌then◌else◌
+  unfolding seek when◌then◌else◌
   seek_under h = rw (le-ltb x.second d (omega arith), ne_eqb x.second d (λ e. omega arith))
 
 pub deeper_stop : (d : ℕ) (x : Row) (xs : List Row) → x.second < d → deeper d (x ∷ xs) ≡ 0
-unfolding deeper if◌then◌else◌
+unfolding deeper when◌then◌else◌
 deeper_stop d x xs h = rw (lt-ltb x.second d h)
 
 pub deeper_on : (d : ℕ) (x : Row) (xs : List Row) → d ≤ x.second → deeper d (x ∷ xs) ≡ suc (deeper d xs)
-unfolding deeper if◌then◌else◌
+unfolding deeper when◌then◌else◌
 deeper_on d x xs h = rw (le-ltb x.second d h)
 
 -- ---- what is found, and an end, lie among the rows
 
 module _ (n j i : ℕ) (later : Option ℕ) (h : later ≡ some i → (suc j ≤ i) × (i < suc j + n)) where
-  found_in : (above hit : Bool) → (if above then none else if hit then some j else later) ≡ some i → (j ≤ i) × (i < j + suc n)
-  unfolding if◌then◌else◌
+  found_in : (above hit : Bool) → (when above then none else when hit then some j else later) ≡ some i → (j ≤ i) × (i < j + suc n)
+  unfolding when◌then◌else◌
   found_in true hit e = let z : ◌≡◌ {A = ℕ} 0 1 = cc in absurd (omega arith)
   found_in false true e = let z : j ≡ i = cc in (omega arith, omega arith)
   found_in false false e = let g = h e in (omega arith, omega arith)
@@ -63,8 +63,8 @@ unfolding seek
 seek_in name d [] j i e = let z : ◌≡◌ {A = ℕ} 0 1 = cc in absurd (omega arith)
 seek_in name d (x ∷ xs) j i e = found_in (length xs) j i (seek name d xs (suc j)) (seek_in name d xs (suc j) i) (ltb x.second d) (eqb x.second d && calls x.label name) e
 
-at_most : (above : Bool) (k n : ℕ) → k ≤ n → (if above then 0 else suc k) ≤ suc n
-unfolding if◌then◌else◌
+at_most : (above : Bool) (k n : ℕ) → k ≤ n → (when above then 0 else suc k) ≤ suc n
+unfolding when◌then◌else◌
 at_most true k n h = omega arith
 at_most false k n h = omega arith
 

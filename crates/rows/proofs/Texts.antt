@@ -10,7 +10,7 @@ use lib.ListN.{length, take, drop, get_or, length-drop, drop_of_length-le}
 use lib.Seq.{drop-cons, get_or-take, get_or-drop, length-take-le, take_all}
 use lib.Dec.{ltb, eqb}
 use borrow.Author.Tests.{lt-ltb, le-ltb, eq-eqb, ne_eqb}
-use Rattle.paper.specs.Bytes.{same, if◌then◌else◌}
+use Rattle.paper.specs.Bytes.{same, when◌then◌else◌}
 use Rattle.memory.specs.Memory.{part_at}
 use Rattle.memory.proofs.Laws.{part_in, part_out}
 use Rattle.rows.specs.View.{byte_of, text_part, label_text, name_of, label_of}
@@ -20,27 +20,27 @@ use Rattle.rows.specs.Search.{calls}
 
 module _ (t u : List ℕ) (p : ℕ) where
   pub byte_first : p < 32768 → byte_of t u p ≡ get_or t p 0
-  unfolding byte_of if◌then◌else◌
+  unfolding byte_of when◌then◌else◌
   byte_first h = rw (lt-ltb p 32768 h)
 
   pub byte_second : 32768 ≤ p → byte_of t u p ≡ get_or u (p - 32768) 0
-  unfolding byte_of if◌then◌else◌
+  unfolding byte_of when◌then◌else◌
   byte_second h = rw (le-ltb p 32768 h)
 
   pub part_first : (n : ℕ) → p < 32768 → text_part t u p n ≡ part_at t p n
-  unfolding text_part if◌then◌else◌
+  unfolding text_part when◌then◌else◌
   part_first n h = rw (lt-ltb p 32768 h)
 
   pub part_second : (n : ℕ) → 32768 ≤ p → text_part t u p n ≡ part_at u (p - 32768) n
-  unfolding text_part if◌then◌else◌
+  unfolding text_part when◌then◌else◌
   part_second n h = rw (le-ltb p 32768 h)
 
   pub no_label : (name : List ℕ) → p ≡ 65535 → calls (label_of t u p) name ≡ false
-  unfolding calls label_of if◌then◌else◌
+  unfolding calls label_of when◌then◌else◌
   no_label name h = rw (eq-eqb p 65535 h)
 
   a_label : (name : List ℕ) → (p ≡ 65535 → ⊥) → calls (label_of t u p) name ≡ same (drop 1 (label_text t u p)) name
-  unfolding calls label_of if◌then◌else◌
+  unfolding calls label_of when◌then◌else◌
   a_label name h = rw (ne_eqb p 65535 h)
 
   pub label_first : (name : List ℕ) → (p ≡ 65535 → ⊥) → p < 32768 → calls (label_of t u p) name ≡ same (drop 1 (part_at t p (1 + get_or t p 0))) name

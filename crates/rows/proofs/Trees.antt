@@ -9,7 +9,7 @@ use mathlib.Core.Option.{none, some}
 use lib.ListN.{length, drop, length-append}
 use lib.Dec.{eqb}
 use borrow.Author.Tests.{lt-ltb, le-ltb, eq-eqb, ne_eqb, eqb-true}
-use Rattle.paper.specs.Bytes.{same, if◌then◌else◌}
+use Rattle.paper.specs.Bytes.{same, when◌then◌else◌}
 use Rattle.paper.specs.Syntax.{Name, Basic, boolean, null, integer, decimal, string, reference, vector, Basics, εⱽ, ◌∷ⱽ◌}
 use Rattle.paper.specs.Store.{Store, ∅, entry, Value, basic, component, put, lookup}
 use Rattle.paper.specs.Layout.{Field, number, text, Row, table_row, name_text, kind, content, elements, each, rows, value_rows, text_of, row_text, texts, deepest}
@@ -116,19 +116,19 @@ mutual
 
 -- a look passes what is deeper
 pub seek_under : (n : Name) (d : ℕ) (xs q : List Row) (i : ℕ) → Deep (suc d) xs → seek n d (xs ++ q) i ≡ seek n d q (length xs + i)
-unfolding seek if◌then◌else◌
+unfolding seek when◌then◌else◌
 seek_under n d [] q i h = ap (seek n d q) (sym (zero-add i))
 seek_under n d (x ∷ xs) q i h =
     let e : length xs + suc i ≡ suc (length xs) + i = omega arith in
     rw (le-ltb x.second d (omega (arith, h.0)), ne_eqb x.second d (omega (arith, h.0))) (seek_under n d xs q (suc i) h.1 ∙ ap (seek n d q) e)
 
 pub seek_low : (n : Name) (d : ℕ) (q : List Row) (i : ℕ) → Low d q → seek n d q i ≡ none
-unfolding seek if◌then◌else◌
+unfolding seek when◌then◌else◌
 seek_low n d [] i h = refl
 seek_low n d (x ∷ xs) i h = rw (lt-ltb x.second d h)
 
 pub deeper_deep : (d : ℕ) (xs q : List Row) → Deep d xs → deeper d (xs ++ q) ≡ length xs + deeper d q
-unfolding deeper if◌then◌else◌
+unfolding deeper when◌then◌else◌
 deeper_deep d [] q h = sym (zero-add (deeper d q))
 deeper_deep d (x ∷ xs) q h =
     let e : suc (length xs + deeper d q) ≡ suc (length xs) + deeper d q = omega arith in
@@ -138,7 +138,7 @@ pub deeper_flat : (d e : ℕ) (s : Store) (q : List Row) → d ≤ e → deeper 
 deeper_flat d e s q h = deeper_deep d (flat e s) q (deep_less d e (flat e s) h (deep_flat e s))
 
 pub deeper_low : (d : ℕ) (q : List Row) → Low d q → deeper d q ≡ 0
-unfolding deeper if◌then◌else◌
+unfolding deeper when◌then◌else◌
 deeper_low d [] h = refl
 deeper_low d (x ∷ xs) h = rw (lt-ltb x.second d h)
 
@@ -190,13 +190,13 @@ module _ (n : Name) (d : ℕ) (q : List Row) (h : Low d q) where
       ap (λ r. r ++ q) (flat_entry d m v s ∙ ap (λ r. r ++ flat d s) (flat_head d m v)) ∙ ap (λ r. head d m v ∷ r) (append_assoc (beneath d v) (flat d s) q)
 
   passed : (m : Name) (v : Value) (s : Store) (i : ℕ) → same m n ≡ false → seek n d (flat d (entry m v s) ++ q) i ≡ seek n d (flat d s ++ q) (length (beneath d v) + suc i)
-  unfolding seek if◌then◌else◌
+  unfolding seek when◌then◌else◌
   passed m v s i e =
       rw (entry_rows m v s, head_depth d m v, calls_head d m v n, le-ltb d d (le_refl d), eq-eqb d d refl, e)
       (seek_under n d (beneath d v) (flat d s ++ q) (suc i) (deep_beneath d v))
 
   hit : (m : Name) (v : Value) (s : Store) (i : ℕ) → same m n ≡ true → seek n d (flat d (entry m v s) ++ q) i ≡ some i
-  unfolding seek if◌then◌else◌
+  unfolding seek when◌then◌else◌
   hit m v s i e = rw (entry_rows m v s, head_depth d m v, calls_head d m v n, le-ltb d d (le_refl d), eq-eqb d d refl, e)
 
   more : (m : Name) (v : Value) (s : Store) (i : ℕ) → same m n ≡ false → Spot n d s q (length (beneath d v) + suc i) → Spot n d (entry m v s) q i

@@ -10,7 +10,7 @@ use lib.ListN.{length, take, drop, get_or, get_or-append}
 use lib.Seq.{get_or-take, get_or-drop, get_or-append-add, take_at, drop_at, take-take, take-append-le, length-take-le}
 use lib.Dec.{leb}
 use borrow.Author.Tests.{le-leb, lt-leb}
-use Rattle.paper.specs.Bytes.{if◌then◌else◌}
+use Rattle.paper.specs.Bytes.{when◌then◌else◌}
 use Rattle.paper.specs.Layout.{Row, text_of, little}
 use Rattle.theorems.proofs.Laws.DecodeAt.{Bytes}
 use Rattle.paper.specs.DecodeAt.{word}
@@ -27,15 +27,15 @@ use Rattle.rows.proofs.Trees.{row_moved}
 -- ---- how many rows a slice is taken to have
 
 pub kept_is : (w : List ℕ) (n : ℕ) → n ≤ 4096 → n * 16 ≤ length w → kept w n ≡ n
-unfolding kept if◌then◌else◌
+unfolding kept when◌then◌else◌
 kept_is w n h l = rw (le-leb n 4096 h, le-leb (n * 16) (length w) l)
 
 pub kept_many : (w : List ℕ) (n : ℕ) → 4096 < n → kept w n ≡ 0
-unfolding kept if◌then◌else◌
+unfolding kept when◌then◌else◌
 kept_many w n h = rw (lt-leb n 4096 h)
 
 pub kept_short : (w : List ℕ) (n : ℕ) → n ≤ 4096 → length w < n * 16 → kept w n ≡ 0
-unfolding kept if◌then◌else◌
+unfolding kept when◌then◌else◌
 kept_short w n h l = rw (le-leb n 4096 h, lt-leb (n * 16) (length w) l)
 
 pub length_view : (t u w : List ℕ) (n : ℕ) → length (view t u w n) ≡ n
@@ -180,8 +180,8 @@ view_splice t u w n i e s m h₁ h₂ h₃ h₄ h₅ =
     groups_splice 16 (seen t u) i e m (n - e) w s (spliced w n i e s m) (drop ((i + m) * 16 + length z) w) (omega arith) h₁ h₅ o
     ∙ ap (λ (j : ℕ). take i (groups 16 (seen t u) w j) ++ (groups 16 (seen t u) s m ++ drop e (groups 16 (seen t u) w j))) q
 
-length_either : (b : Bool) (x y : List ℕ) (n : ℕ) → length x ≡ n → length y ≡ n → length (if b then x else y) ≡ n
-unfolding if◌then◌else◌
+length_either : (b : Bool) (x y : List ℕ) (n : ℕ) → length x ≡ n → length y ≡ n → length (when b then x else y) ≡ n
+unfolding when◌then◌else◌
 length_either true x y n p q = p
 length_either false x y n p q = q
 

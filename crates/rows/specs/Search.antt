@@ -1,7 +1,7 @@
 -- What is looked for among rows. Assumes nothing.
 use Rattle.std.specs.Prelude.{ℕ, suc, ◌+◌, Bool, false, ◌&&◌, List, [], ◌∷◌, drop, ltb, eqb}
 use Rattle.std.proofs.Math.Option.{Option, none, some}
-use Rattle.paper.specs.Bytes.{same, if◌then◌else◌}
+use Rattle.paper.specs.Bytes.{same, when◌then◌else◌}
 use Rattle.paper.specs.Syntax.{Name}
 use Rattle.paper.specs.Layout.{Field, number, text, Row}
 use Rattle.rows.specs.declared.search.Found.{Found}
@@ -16,8 +16,8 @@ calls (text s) n = same (drop 1 s) n
 unfoldable pub seek : Name → ℕ → List Row → ℕ → Option ℕ
 seek n d [] i = none
 seek n d (x ∷ xs) i =
-    if ltb x.second d then none else
-    if eqb x.second d && calls x.label n then some i else
+    when ltb x.second d then none else
+    when eqb x.second d && calls x.label n then some i else
     seek n d xs (suc i)
 
 -- what the code answers
@@ -28,7 +28,7 @@ sought Nothing = none
 -- how many rows of depth d or more come first
 unfoldable pub deeper : ℕ → List Row → ℕ
 deeper d [] = 0
-deeper d (x ∷ xs) = if ltb x.second d then 0 else suc (deeper d xs)
+deeper d (x ∷ xs) = when ltb x.second d then 0 else suc (deeper d xs)
 
 -- how many text bytes rows have
 unfoldable pub text_bytes : List Row → ℕ

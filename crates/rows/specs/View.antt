@@ -2,7 +2,7 @@
 -- has in all, each u16; value u64. Texts stay where they are and are shared: a place below 32,768 is in the text t (the step list's),
 -- from there on in the text u (the starting table's). Assumes nothing.
 use Rattle.std.specs.Prelude.{ℕ, zero, suc, ◌+◌, ◌-◌, ◌*◌, ◌&&◌, List, [], ◌∷◌, length, take, drop, get_or, leb, ltb, eqb}
-use Rattle.paper.specs.Bytes.{if◌then◌else◌}
+use Rattle.paper.specs.Bytes.{when◌then◌else◌}
 use Rattle.paper.specs.Layout.{Field, number, text, Row, text_of}
 use Rattle.paper.specs.DecodeAt.{word}
 use Rattle.memory.specs.Memory.{part_at}
@@ -11,11 +11,11 @@ use Rattle.memory.specs.Memory.{part_at}
 
 -- the byte at a place; 0 past the end
 unfoldable pub byte_of : List ℕ → List ℕ → ℕ → ℕ
-byte_of t u p = if ltb p 32768 then get_or t p 0 else get_or u (p - 32768) 0
+byte_of t u p = when ltb p 32768 then get_or t p 0 else get_or u (p - 32768) 0
 
 -- the n bytes at a place; none where they do not all stand there
 unfoldable pub text_part : List ℕ → List ℕ → ℕ → ℕ → List ℕ
-text_part t u p n = if ltb p 32768 then part_at t p n else part_at u (p - 32768) n
+text_part t u p n = when ltb p 32768 then part_at t p n else part_at u (p - 32768) n
 
 -- a name's text, its length byte and its bytes, and the name
 unfoldable pub label_text : List ℕ → List ℕ → ℕ → List ℕ
@@ -26,11 +26,11 @@ name_of t u p = drop 1 (label_text t u p)
 
 -- an element has no name: 65,535
 unfoldable pub label_of : List ℕ → List ℕ → ℕ → Field
-label_of t u p = if eqb p 65535 then number 65535 else text (label_text t u p)
+label_of t u p = when eqb p 65535 then number 65535 else text (label_text t u p)
 
 -- a value of kind k: of kinds 4 to 6 it is the place of m bytes of text
 unfoldable pub value_of : List ℕ → List ℕ → ℕ → ℕ → ℕ → Field
-value_of t u k v m = if leb 4 k && leb k 6 then text (text_part t u v m) else number v
+value_of t u k v m = when leb 4 k && leb k 6 then text (text_part t u v m) else number v
 
 -- ---- rows
 
@@ -58,7 +58,7 @@ view t u w n = groups 16 (seen t u) w n
 
 -- how many rows a slice is taken to have that is said to have n: as many as a work slice has room for, or none
 unfoldable pub kept : List ℕ → ℕ → ℕ
-kept w n = if leb n 4096 && leb (n * 16) (length w) then n else 0
+kept w n = when leb n 4096 && leb (n * 16) (length w) then n else 0
 
 -- the rows of a slice that is said to have n
 unfoldable pub rows_in : List ℕ → List ℕ → List ℕ → ℕ → List Row

@@ -8,7 +8,7 @@ use lib.ListN.{length, take, drop, length-append, length-drop}
 use lib.Seq.{drop_at, take_at, drop-drop}
 use lib.Dec.{eqb}
 use borrow.Author.Tests.{le-leb, lt-leb}
-use Rattle.paper.specs.Bytes.{if◌then◌else◌}
+use Rattle.paper.specs.Bytes.{when◌then◌else◌}
 use Rattle.paper.specs.Answer.{Answer, ok, refused, demand, ◌>>=◌}
 use Rattle.paper.specs.Syntax.{Name, Path}
 use Rattle.paper.specs.Store.{Store, ∅, entry, Value, put}
@@ -119,10 +119,10 @@ view_part t u s m j a room h =
 
 -- a label that is a name's gives the name
 pub label_there : (t u : List ℕ) (l : ℕ) (n : Name) → label_of t u l ≡ text (name_text n) → label_text t u l ≡ name_text n
-unfolding label_of name_text if◌then◌else◌
+unfolding label_of name_text when◌then◌else◌
 label_there t u l n e = go (eqb l 65535) e
   where
-    go : (c : Bool) → (if c then number 65535 else text (label_text t u l)) ≡ text (length n ∷ n) → label_text t u l ≡ length n ∷ n
+    go : (c : Bool) → (when c then number 65535 else text (label_text t u l)) ≡ text (length n ∷ n) → label_text t u l ≡ length n ∷ n
     go true e = absurd (let z : ◌≡◌ {A = ℕ} 0 1 = cc in omega arith)
     go false e = cc
 

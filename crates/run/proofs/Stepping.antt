@@ -9,7 +9,7 @@ use mathlib.Core.Option.{some}
 use lib.ListN.{length, take, drop, get_or, length-append, length-drop}
 use lib.Seq.{drop_at, take_at, take_all, get_or-drop}
 use borrow.Author.Tests.{ne_eqb}
-use Rattle.paper.specs.Bytes.{if◌then◌else◌}
+use Rattle.paper.specs.Bytes.{when◌then◌else◌}
 use Rattle.paper.specs.Syntax.{Name, Path}
 use Rattle.paper.specs.Store.{Store, ∅, Value, basic, component, resolve, resolve_in}
 use Rattle.paper.specs.Bounds.{assign}
@@ -86,11 +86,11 @@ name_size n = omega (arith, length-append n [])
 
 module _ (t u s : List ℕ) (k label size : ℕ) (name : Name) (low : label < 32768) (few : k ≤ 64) (named : label_text t u label ≡ name_text name) (es : size ≡ 1 + byte_of t u label) (es' : size < 65536) (room : 65536 ≤ length s) where
   label_is : label_of t u label ≡ text (name_text name)
-  unfolding label_of if◌then◌else◌
+  unfolding label_of when◌then◌else◌
   label_is = rw (ne_eqb label 65535 (λ e. omega arith)) (ap text named)
 
   empty_row : seen_row t u 0 k label size 0 ≡ head k name (component ∅)
-  unfolding seen_row head line sized table_row row_text text_of value_of if◌then◌else◌
+  unfolding seen_row head line sized table_row row_text text_of value_of when◌then◌else◌
   empty_row =
       let a : size ≡ length (name_text name ++ []) = es ∙ ap (λ x. 1 + x) (byte_label t u label name named) ∙ name_size name in
       λ i. record { first = 0; second = k; label = label_is i; span = a i; value = number 0; last = [] }

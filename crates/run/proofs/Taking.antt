@@ -9,7 +9,7 @@ use lib.ListN.{length, take, drop, get_or, length-append, length-drop}
 use lib.Seq.{drop_at, take_at, length-take-le, drop-drop, drop-append-add}
 use lib.Dec.{ltb, leb}
 use borrow.Author.Tests.{ne_eqb, leb-true}
-use Rattle.paper.specs.Bytes.{if◌then◌else◌}
+use Rattle.paper.specs.Bytes.{when◌then◌else◌}
 use Rattle.paper.specs.Syntax.{Name}
 use Rattle.paper.specs.Store.{Store, Value, basic, component}
 use Rattle.paper.specs.Layout.{Field, number, text, Row, name_text, text_of, row_text, table_row, kind, content, deepest}
@@ -40,8 +40,8 @@ behind s at k b h l =
     ap (drop k) e ∙ ap (λ j. drop j (x ++ drop (at + length b) s)) q ∙ drop-append-add x (drop (at + length b) s) (k - (at + length b))
     ∙ drop-drop (k - (at + length b)) (at + length b) s ∙ ap (λ j. drop j s) r
 
-either_behind : (c : Bool) (s x : List ℕ) (k : ℕ) → drop k x ≡ drop k s → drop k (if c then x else s) ≡ drop k s
-unfolding if◌then◌else◌
+either_behind : (c : Bool) (s x : List ℕ) (k : ℕ) → drop k x ≡ drop k s → drop k (when c then x else s) ≡ drop k s
+unfolding when◌then◌else◌
 either_behind true s x k e = e
 either_behind false s x k e = refl
 
@@ -71,10 +71,10 @@ part_length s p k x n e = go (within (length s) p (1 + k)) refl e
     go false q f = absurd (let z : ◌≡◌ {A = ℕ} 0 1 = cc in omega arith)
 
 pub byte_label : (t u : List ℕ) (p : ℕ) (n : Name) → label_text t u p ≡ name_text n → byte_of t u p ≡ length n
-unfolding label_text text_part byte_of name_text if◌then◌else◌
+unfolding label_text text_part byte_of name_text when◌then◌else◌
 byte_label t u p n e = go (ltb p 32768) e
   where
-    go : (c : Bool) → (if c then part_at t p (1 + (if c then get_or t p 0 else get_or u (p - 32768) 0)) else part_at u (p - 32768) (1 + (if c then get_or t p 0 else get_or u (p - 32768) 0))) ≡ length n ∷ n → (if c then get_or t p 0 else get_or u (p - 32768) 0) ≡ length n
+    go : (c : Bool) → (when c then part_at t p (1 + (when c then get_or t p 0 else get_or u (p - 32768) 0)) else part_at u (p - 32768) (1 + (when c then get_or t p 0 else get_or u (p - 32768) 0))) ≡ length n ∷ n → (when c then get_or t p 0 else get_or u (p - 32768) 0) ≡ length n
     go true e = sym (part_length t p (get_or t p 0) (length n) n e)
     go false e = sym (part_length u (p - 32768) (get_or u (p - 32768) 0) (length n) n e)
 
@@ -237,7 +237,7 @@ module _ (t u w : List ℕ) (n j : ℕ) (few : n ≤ 1024) (room : n * 16 ≤ le
         size_is = es ∙ renamed (field_at 2 w j 6) new old (length nm) (length name) (length (text_of content_of)) old_length new_length old_size no_more small
 
         label_is : label_of t u label ≡ text (name_text name)
-        unfolding label_of if◌then◌else◌
+        unfolding label_of when◌then◌else◌
         label_is = rw (ne_eqb label 65535 (λ e. omega arith)) (ap text named)
 
         value_is : value_of t u (field_at 2 w j 0) (field_at 8 w j 8) (size - length (text_of (label_of t u label))) ≡ content_of

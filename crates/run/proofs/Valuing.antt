@@ -9,7 +9,7 @@ use mathlib.Core.Logic.{◌⊎◌, inl, inr, ⊎_elim}
 use lib.ListN.{length, take, drop, get_or, length-append, length-drop}
 use lib.Seq.{drop_at, drop-drop, length-take-le}
 use borrow.Author.Tests.{le-leb, lt-leb, ne_eqb}
-use Rattle.paper.specs.Bytes.{if◌then◌else◌}
+use Rattle.paper.specs.Bytes.{when◌then◌else◌}
 use Rattle.paper.specs.Syntax.{Name, Path, Basic, boolean, null, integer, decimal, string, reference, vector, Basics, εⱽ, ◌∷ⱽ◌}
 use Rattle.paper.specs.Store.{basic}
 use Rattle.paper.specs.Layout.{Field, number, text, Row, table_row, name_text, path_text, kind, content, elements, each, text_of, row_text, texts, figure, records}
@@ -78,11 +78,11 @@ row_behind list t s s' i q label d h e =
 -- ---- a row as it is seen
 
 no_name : (t u : List ℕ) → label_of t u 65535 ≡ number 65535
-unfolding label_of if◌then◌else◌
+unfolding label_of when◌then◌else◌
 no_name t u = refl
 
 a_name : (t u : List ℕ) (p : ℕ) (n : Name) → p < 32768 → label_text t u p ≡ name_text n → label_of t u p ≡ text (name_text n)
-unfolding label_of if◌then◌else◌
+unfolding label_of when◌then◌else◌
 a_name t u p n h e = rw (ne_eqb p 65535 (λ z. omega arith)) (ap text e)
 
 name_long : (t u : List ℕ) (p : ℕ) (n : Name) → p < 32768 → label_text t u p ≡ name_text n → name_size t p ≡ length (name_text n)
@@ -94,12 +94,12 @@ name_long t u p n h e =
     ∙ ⊎_elim (λ f. sym (length_part t p (1 + b) f) ∙ ap length w) (λ o. absurd (omega (arith, sym (ap length (part_out t p (1 + b) o)) ∙ ap length w))) (fit (p + (1 + b)) (length t))
 
 no_text : (t u : List ℕ) (k v m : ℕ) → (k < 4) ⊎ (6 < k) → value_of t u k v m ≡ number v
-unfolding value_of if◌then◌else◌
+unfolding value_of when◌then◌else◌
 no_text t u k v m (inl h) = rw (lt-leb 4 k h)
 no_text t u k v m (inr h) = rw (le-leb 4 k (omega arith), lt-leb k 6 h)
 
 a_text : (t u : List ℕ) (k p : ℕ) (s more : List ℕ) → 4 ≤ k → k ≤ 6 → p < 32768 → p ≤ length t → drop p t ≡ s ++ more → value_of t u k p (length s) ≡ text s
-unfolding value_of if◌then◌else◌
+unfolding value_of when◌then◌else◌
 a_text t u k p s more a b h l e = rw (le-leb 4 k a, le-leb k 6 b) (ap text (part_first t u p (length s) h ∙ part_there t s more p (length s) l refl e))
 
 value_seen : (t u : List ℕ) (k p : ℕ) (f : Field) (more : List ℕ) → ValueFits k f → Below 18446744073709551616 f → drop p t ≡ text_of f ++ more → length t ≤ 32768

@@ -9,7 +9,7 @@ use lib.ListN.{length, take, drop, length-drop}
 use lib.Seq.{paste-zero}
 use lib.Dec.{leb, lit<}
 use borrow.Author.Tests.{eq-eqb, ne_eqb, le-leb, lt-leb}
-use Rattle.paper.specs.Bytes.{at, is, if◌then◌else◌}
+use Rattle.paper.specs.Bytes.{at, is, when◌then◌else◌}
 use Rattle.paper.specs.Tokens.{starts, digit}
 use Rattle.paper.specs.Scanner.{Scanned, named, number, text, scan, empty}
 use Rattle.theorems.proofs.Laws.Answers.{if_case}
@@ -27,7 +27,7 @@ not_empty (b ∷ s) h = refl
 
 -- a string stands where a quote does, and what is no name and no number
 pub scan_string : (s : List ℕ) → (length s ≡ 0 → ⊥) → starts (at s 0) ≡ false → (digit (at s 0) || is "-" (at s 0)) ≡ false → is "\"" (at s 0) ≡ true → scan s ≡ text (quotes (drop 1 s))
-unfolding scan if◌then◌else◌
+unfolding scan when◌then◌else◌
 scan_string s h e f g = rw (not_empty s h, e, f, g) (ap text (all_quotes (length s) (drop 1 s) (omega (arith, length-drop 1 s))))
 
 Nothing : Scanned → Type 0
@@ -68,7 +68,7 @@ module _ (o : Option (List ℕ × ℕ)) where
       go (some r) h = let z : ◌≡◌ {A = ℕ} 0 1 = cc in absurd (omega arith)
 
   pub text_short : is_closed o ≡ true → length (text_in o) ≤ 4095 → text_of (text o) ≡ text_in o
-  unfolding is_closed text_in text_of string_of text if◌then◌else◌
+  unfolding is_closed text_in text_of string_of text when◌then◌else◌
   text_short h l = go o h l
     where
       go : (o : Option (List ℕ × ℕ)) → is_closed o ≡ true → length (text_in o) ≤ 4095 → text_of (text o) ≡ text_in o
@@ -76,7 +76,7 @@ module _ (o : Option (List ℕ × ℕ)) where
       go (some r) h l = rw (le-leb (length r.0) 4095 l)
 
   pub text_long : 4095 < length (text_in o) → text_of (text o) ≡ []
-  unfolding text_in text_of string_of text if◌then◌else◌
+  unfolding text_in text_of string_of text when◌then◌else◌
   text_long l = go o l
     where
       go : (o : Option (List ℕ × ℕ)) → 4095 < length (text_in o) → text_of (text o) ≡ []
@@ -87,17 +87,17 @@ module _ (o : Option (List ℕ × ℕ)) where
 
 module _ (x : Scanned) (at : ℕ) (o : List ℕ) where
   pub writes_nothing : text_of x ≡ [] → ◌≡◌ {A = Decoded} (record { count = 0; out = o }) (decoded x at o)
-  unfolding decoded put if◌then◌else◌
+  unfolding decoded put when◌then◌else◌
   writes_nothing e = rw e (go (leb (at + 0) (length o)))
     where
-      go : (c : Bool) → ◌≡◌ {A = Decoded} (record { count = 0; out = o }) (if c then record { count = 0; out = take at o ++ [] ++ drop (at + 0) o } else record { count = 0; out = o })
+      go : (c : Bool) → ◌≡◌ {A = Decoded} (record { count = 0; out = o }) (when c then record { count = 0; out = take at o ++ [] ++ drop (at + 0) o } else record { count = 0; out = o })
       go true = λ i. record { count = 0; out = paste-zero o at [] i }
       go false = refl
 
   pub writes_none : leb (at + length (text_of x)) (length o) ≡ false → ◌≡◌ {A = Decoded} (record { count = 0; out = o }) (decoded x at o)
-  unfolding decoded if◌then◌else◌
+  unfolding decoded when◌then◌else◌
   writes_none e = rw e
 
   pub writes_all : leb (at + length (text_of x)) (length o) ≡ true → ◌≡◌ {A = Decoded} (record { count = length (text_of x); out = put at (text_of x) o }) (decoded x at o)
-  unfolding decoded if◌then◌else◌
+  unfolding decoded when◌then◌else◌
   writes_all e = rw e

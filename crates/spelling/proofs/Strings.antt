@@ -10,7 +10,7 @@ use lib.ListN.{length, take, drop, get_or, set, drop_of_length-le, length-drop}
 use lib.Seq.{drop-drop, paste, paste-suc, take_all}
 use lib.Dec.{leb, lit<}
 use borrow.Author.Tests.{eq-eqb, ne_eqb, eqb-true, leb-true}
-use Rattle.paper.specs.Bytes.{at, is, among, between, if◌then◌else◌}
+use Rattle.paper.specs.Bytes.{at, is, among, between, when◌then◌else◌}
 use Rattle.paper.specs.Tokens.{octal, escaped}
 use Rattle.paper.specs.Scanner.{meant, quoted, empty}
 use Rattle.theorems.proofs.Laws.Answers.{if_case}
@@ -50,7 +50,7 @@ octal_bounds s e =
 
 module _ (s : List ℕ) where
   pub meant_end : length s ≡ 0 → Bad ≡ meant_of (meant s)
-  unfolding meant_of meant if◌then◌else◌
+  unfolding meant_of meant when◌then◌else◌
   meant_end h = go s h
     where
       go : (s : List ℕ) → length s ≡ 0 → Bad ≡ meant_of (meant s)
@@ -58,7 +58,7 @@ module _ (s : List ℕ) where
       go (b ∷ s) h = absurd (omega arith)
 
   pub meant_line : among "\n\r" (at s 0) ≡ true → Bad ≡ meant_of (meant s)
-  unfolding meant_of meant if◌then◌else◌
+  unfolding meant_of meant when◌then◌else◌
   meant_line e = rw e
 
   not_empty : (b : ℕ) → at s 0 ≡ b → b < 256 → empty s ≡ false
@@ -69,16 +69,16 @@ module _ (s : List ℕ) where
       go (x ∷ s) e = refl
 
   pub meant_plain : at s 0 < 256 → among "\n\r" (at s 0) ≡ false → is "\\" (at s 0) ≡ false → Byte (at s 0) 1 ≡ meant_of (meant s)
-  unfolding meant_of meant if◌then◌else◌
+  unfolding meant_of meant when◌then◌else◌
   meant_plain h e f = rw (e, not_empty (at s 0) refl h, f)
 
   module _ (h : at s 0 ≡ 92) where
     pub meant_octals : octals_at s ≡ true → Byte (octal_value s) 4 ≡ meant_of (meant s)
-    unfolding meant_of meant octals_at octal_value if◌then◌else◌
+    unfolding meant_of meant octals_at octal_value when◌then◌else◌
     meant_octals e = rw (h, not_empty 92 h (lit< tt), e)
 
     pub meant_escape : octals_at s ≡ false → escape_of (escaped (at s 1)) ≡ meant_of (meant s)
-    unfolding meant_of escape_of meant octals_at if◌then◌else◌
+    unfolding meant_of escape_of meant octals_at when◌then◌else◌
     meant_escape e = rw (h, not_empty 92 h (lit< tt), e) (go (escaped (at s 1)))
       where
         go : (o : Option ℕ) → escape_of o ≡ meant_of (elim o [ none ↦ none | some b ↦ some (b, 2) ])
@@ -91,7 +91,7 @@ data Ranged (s : List ℕ) : Option (ℕ × ℕ) → Type 0 where
   byte : (b n : ℕ) → 1 ≤ n → n ≤ length s → Ranged s (some (b, n))
 
 escape_ranged : (s : List ℕ) (o : Option ℕ) → escaped (at s 1) ≡ o → Ranged s (elim o [ none ↦ none | some b ↦ some (b, 2) ])
-unfolding escaped if◌then◌else◌
+unfolding escaped when◌then◌else◌
 escape_ranged s none e = no_byte
 escape_ranged s (some b) e = byte b 2 (omega arith) (class_there (λ x. elim (escaped x) [ none ↦ false | some y ↦ true ]) refl s 1 (rw e))
 
@@ -159,7 +159,7 @@ module _ (f : ℕ) (s : List ℕ) where
 
 -- a count that is enough may be any other that is
 pub enough : (f g : ℕ) (s : List ℕ) → length s ≤ f → length s ≤ g → quoted f s ≡ quoted g s
-unfolding quoted meant if◌then◌else◌
+unfolding quoted meant when◌then◌else◌
 enough zero zero s l m = refl
 enough zero (suc g) [] l m = sym (quoted_bad g [] refl refl)
 enough zero (suc g) (b ∷ s) l m = absurd (omega arith)
@@ -238,14 +238,14 @@ next_of t u n b e = rw add-one (go t n e)
 
 -- the bytes that mean themselves after a backslash
 pub itself_is : (b x : ℕ) → b ≡ x → among "\\\"'" x ≡ true → Byte x 2 ≡ itself_of b
-unfolding itself_of if◌then◌else◌
+unfolding itself_of when◌then◌else◌
 itself_is b x e f = rw (e, f)
 
 pub itself_escaped : (b : ℕ) → is "n" b ≡ false → is "t" b ≡ false → is "b" b ≡ false → is "r" b ≡ false → is "f" b ≡ false → itself_of b ≡ escape_of (escaped b)
-unfolding itself_of escape_of escaped if◌then◌else◌
+unfolding itself_of escape_of escaped when◌then◌else◌
 itself_escaped b n t v r f = rw (n, t, v, r, f, escaped) (go (among "\\\"'" b))
   where
-    go : (c : Bool) → (if c then Byte b 2 else Bad) ≡ escape_of (if c then some b else none)
+    go : (c : Bool) → (when c then Byte b 2 else Bad) ≡ escape_of (when c then some b else none)
     go true = refl
     go false = refl
 

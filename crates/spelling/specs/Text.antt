@@ -1,7 +1,7 @@
 -- What the code answers of strings, as the paper's answers. Assumes nothing.
 use Rattle.std.specs.Prelude.{ℕ, ◌+◌, ◌-◌, ◌*◌, Bool, true, false, ◌&&◌, List, [], ◌++◌, length, take, drop}
 use Rattle.std.proofs.Math.Option.{Option, none, some}
-use Rattle.paper.specs.Bytes.{at, among, between, if◌then◌else◌}
+use Rattle.paper.specs.Bytes.{at, among, between, when◌then◌else◌}
 use Rattle.paper.specs.Tokens.{octal}
 use Rattle.paper.specs.Scanner.{quoted}
 use Rattle.spelling.specs.declared.text.Meant.{Meant}
@@ -18,7 +18,7 @@ escape_of none = Bad
 escape_of (some b) = Byte b 2
 
 unfoldable pub itself_of : ℕ → Meant
-itself_of b = if among "\\\"'" b then Byte b 2 else Bad
+itself_of b = when among "\\\"'" b then Byte b 2 else Bad
 
 unfoldable pub octals_at : List ℕ → Bool
 octals_at s = between "0" "3" (at s 1) && octal (at s 2) && octal (at s 3)

@@ -11,7 +11,7 @@ use mathlib.Core.Option.{Option, none, some}
 use lib.ListN.{length, length-drop}
 use lib.Dec.{leb, ltb, eqb}
 use borrow.Author.Tests.{leb-true, lt-ltb, le-ltb, le-leb, ne_eqb}
-use Rattle.paper.specs.Bytes.{if◌then◌else◌}
+use Rattle.paper.specs.Bytes.{when◌then◌else◌}
 use Rattle.paper.specs.Maybe.{◌>>=◌, require}
 use Rattle.paper.specs.Syntax.{Block, εᴮ, ◌∷ᴮ◌, assign, Prototypes, εᴾ, block}
 use Rattle.paper.specs.Decoder.{Cursor, record_at, field, path_of}
@@ -94,7 +94,7 @@ abbrev rest : ℕ → Cursor → Option (Block × Cursor)
 rest d at = record_at 4 at >>= λ x. require (ltb x.0.place 32768) >>= λ _. field path_of x.0.label x.1 >>= λ r. value_from d x.0 r.1 >>= λ v. statements_from d v.1 >>= λ t. some (assign r.0 v.0 ∷ᴮ t.0, t.1)
 
 body_is : (d : ℕ) (at : Cursor) → stops at ≡ false → statement_body value_from statements_from d at ≡ rest d at
-unfolding statement_body if◌then◌else◌
+unfolding statement_body when◌then◌else◌
 body_is d at e = rw e
 
 chain : (d : ℕ) (at : Cursor) → (statement_at d at >>= λ s. statements_from d s.1 >>= λ t. some (s.0 ∷ᴮ t.0, t.1)) ≡ rest d at
@@ -105,7 +105,7 @@ chain d at =
 
 module _ (recs text : List ℕ) (d i p : ℕ) where
   pub statements_stop : StopsIs recs i true → WalkIs (statements_here recs text d i p) recs text (Walked i p)
-  unfolding statement_body if◌then◌else◌
+  unfolding statement_body when◌then◌else◌
   statements_stop S = let e = S text p in (εᴮ, statements_is d (cursor recs text i p) ∙ rw (← e))
 
   module _ (S : StopsIs recs i false) where
@@ -139,12 +139,12 @@ module _ (recs text : List ℕ) (d i p : ℕ) (b : Bytes recs) (h : i + 20 ≤ l
   step_is = sym (es ∙ word_in 2 recs i (omega arith))
 
   pub prototype_take : s ≡ 2 → (r : Walk) → WalkOn (take_here recs text i p) recs text i r → WalkOn (prototype_here recs text d i p) recs text i r
-  unfolding prototype_here if◌then◌else◌
+  unfolding prototype_here when◌then◌else◌
   prototype_take e r w = rw (step_is, e) w
 
   module _ (n : s ≡ 2 → ⊥) where
     prototype_block : prototype_here recs text d i p ≡ block_at d (raw_at 4 recs i) (cursor recs text (i + 20) p)
-    unfolding prototype_here if◌then◌else◌
+    unfolding prototype_here when◌then◌else◌
     prototype_block = rw (step_is, ne_eqb s 2 n)
 
     bare_is : (r : Bool) → bare 3 (fields 4 recs i) ≡ require r → bare 3 (raw_at 4 recs i) ≡ require r
@@ -203,14 +203,14 @@ module _ (recs text : List ℕ) (d i p : ℕ) (b : Bytes recs) where
     k y = prototypes_from d y.1 >>= λ ps. some (y.0 ps.0, ps.1)
 
     taken : eqb (word 2 recs i) 2 ≡ true → prototype_body statements_from prototypes_from d at ≡ prototype_here recs text d i p >>= k
-    unfolding prototype_body prototype_here take_at raw_at if◌then◌else◌ ◌>>=◌
+    unfolding prototype_body prototype_here take_at raw_at when◌then◌else◌ ◌>>=◌
     taken e =
         rw (record_here 4 recs text i p b opens_inside, e)
         (sym (assoc (plain 2 (raw_at 4 recs i)) _ k ∙ under (plain 2 (raw_at 4 recs i)) (λ _. assoc (require (eqb (raw_at 4 recs i).value 0)) _ k ∙ under (require (eqb (raw_at 4 recs i).value 0)) (λ _.
         assoc (field path_of (raw_at 4 recs i).label (cursor recs text (i + 20) p)) _ k))))
 
     entered : (eqb (word 2 recs i) 2 ≡ false) × (eqb (word 2 recs i) 3 ≡ true) → prototype_body statements_from prototypes_from d at ≡ prototype_here recs text d i p >>= k
-    unfolding prototype_body prototype_here block_at raw_at if◌then◌else◌ ◌>>=◌
+    unfolding prototype_body prototype_here block_at raw_at when◌then◌else◌ ◌>>=◌
     entered e =
         rw (record_here 4 recs text i p b opens_inside, e.0, e.1)
         (sym (assoc (bare 3 (raw_at 4 recs i)) _ k ∙ under (bare 3 (raw_at 4 recs i)) (λ _. assoc (require (ltb d 32)) _ k ∙ under (require (ltb d 32)) (λ _.
@@ -246,7 +246,7 @@ module _ (recs text : List ℕ) (d i p : ℕ) (b : Bytes recs) where
     steps w = neither _ _ (rw (le-leb (i + 20) (length recs) w) at O)
 
     inside : i + 20 ≤ length recs → prototype_body statements_from prototypes_from d at ≡ closing
-    unfolding prototype_body raw_at if◌then◌else◌ ◌>>=◌
+    unfolding prototype_body raw_at when◌then◌else◌ ◌>>=◌
     inside w = let e = steps w in rw (record_here 4 recs text i p b w, e.0, e.1) (sym (assoc (bare 5 (raw_at 4 recs i)) _ _))
 
     shut : prototypes_here recs text d i p ≡ closing

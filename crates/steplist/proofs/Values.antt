@@ -11,7 +11,7 @@ use mathlib.Core.Option.{Option, none, some}
 use lib.ListN.{length}
 use lib.Dec.{eqb}
 use borrow.Author.Tests.{le-leb, lt-leb, eq-eqb, ne_eqb}
-use Rattle.paper.specs.Bytes.{if◌then◌else◌}
+use Rattle.paper.specs.Bytes.{when◌then◌else◌}
 use Rattle.paper.specs.Maybe.{◌>>=◌, require}
 use Rattle.paper.specs.Syntax.{basic, link, extends, Prototypes, εᴾ, named}
 use Rattle.paper.specs.Decoder.{Cursor, Raw, record_at, field, path_of}
@@ -49,7 +49,7 @@ Some y = some_prototype y.0 ≡ true
 module _ (recs text : List ℕ) (d j p : ℕ) (b : Bytes recs) (t : ℕ) (e : t ≡ word_at 2 recs j) where
   -- a done: no prototype is found, or none at all
   pub none_first : t ≡ 5 → (prototypes_from d (cursor recs text j p) ≡ none) ⊎ ((c : Cursor) × (prototypes_from d (cursor recs text j p) ≡ some (εᴾ, c)))
-  unfolding prototype_body if◌then◌else◌ raw_at ◌>>=◌
+  unfolding prototype_body when◌then◌else◌ raw_at ◌>>=◌
   none_first f =
       ⊎_elim
       (λ w.
@@ -106,11 +106,11 @@ module _ (recs text : List ℕ) (d i p : ℕ) (h : i + 20 ≤ length recs) where
     span_is = sym (f ∙ word_in 2 recs (i + 6) (omega arith))
 
     pub set_none : s < 1 → value_here recs text d i p ≡ none
-    unfolding value_body raw_at if◌then◌else◌ ◌>>=◌ require
+    unfolding value_body raw_at when◌then◌else◌ ◌>>=◌ require
     set_none l = value_is d (raw_at 4 recs i) (cursor recs text (i + 20) p) ∙ rw (e, span_is, lt-leb 1 s l)
 
     pub set_basic : (r : Walk) → 1 ≤ s → WalkIs (basic_here Steps recs text d s i p) recs text r → WalkIs (value_here recs text d i p) recs text r
-    unfolding value_body raw_at size_of form_of in_steps if◌then◌else◌ ◌>>=◌ require
+    unfolding value_body raw_at size_of form_of in_steps when◌then◌else◌ ◌>>=◌ require
     set_basic r l w =
         let q = basic_inside Steps recs text i p b d s h in
         rw (value_is d (raw_at 4 recs i) (cursor recs text (i + 20) p), e, span_is, le-leb 1 s l) (onto recs text _ (basic (word 4 recs (i + 16))) r (rw q at w))
@@ -127,7 +127,7 @@ module _ (recs text : List ℕ) (d i p : ℕ) (h : i + 20 ≤ length recs) where
     is_link = eq-eqb (word 2 recs i) 8 e
 
     pub link_marred : plain 8 (fields 4 recs i) ≡ require false → value_here recs text d i p ≡ none
-    unfolding value_body if◌then◌else◌ ◌>>=◌ require
+    unfolding value_body when◌then◌else◌ ◌>>=◌ require
     link_marred g =
         value_is d (raw_at 4 recs i) (cursor recs text (i + 20) p) ∙ rw (not_set, is_link, plain_is 8 false g)
 
@@ -137,11 +137,11 @@ module _ (recs text : List ℕ) (d i p : ℕ) (h : i + 20 ≤ length recs) where
       value_v = sym (f ∙ word_in 8 recs (i + 8) (omega arith))
 
       pub link_no : FieldIs path_of text v p Bad → value_here recs text d i p ≡ none
-      unfolding value_body if◌then◌else◌ ◌>>=◌ require
+      unfolding value_body when◌then◌else◌ ◌>>=◌ require
       link_no F = value_is d (raw_at 4 recs i) (cursor recs text (i + 20) p) ∙ rw (not_set, is_link, plain_is 8 true g, value_v, F recs (i + 20))
 
       pub link_path : (q : ℕ) → FieldIs path_of text v p (At q) → WalkIs (value_here recs text d i p) recs text (Walked (i + 20) q)
-      unfolding value_body if◌then◌else◌ ◌>>=◌ require
+      unfolding value_body when◌then◌else◌ ◌>>=◌ require
       link_path q F =
           let P = F recs (i + 20) in
           (link (raw_at 4 recs i).place P.0, value_is d (raw_at 4 recs i) (cursor recs text (i + 20) p) ∙ rw (not_set, is_link, plain_is 8 true g, value_v, P.1))
@@ -191,7 +191,7 @@ module _ (recs text : List ℕ) (d i p : ℕ) (h : i + 20 ≤ length recs) where
     no_link = ne_eqb (word 2 recs i) 8 (λ z. n₈ (sym first_s ∙ z))
 
     pub make_marred : plain 1 (fields 4 recs i) ≡ require false → value_here recs text d i p ≡ none
-    unfolding value_body if◌then◌else◌ ◌>>=◌ require
+    unfolding value_body when◌then◌else◌ ◌>>=◌ require
     make_marred g = value_is d (raw_at 4 recs i) (cursor recs text (i + 20) p) ∙ rw (no_set, no_link, plain_is 1 false g)
 
     module _ (g : plain 1 (fields 4 recs i) ≡ require true) (v : ℕ) (f : v ≡ word_at 8 recs (i + 8)) where
@@ -200,12 +200,12 @@ module _ (recs text : List ℕ) (d i p : ℕ) (h : i + 20 ≤ length recs) where
       value_m = sym (f ∙ word_in 8 recs (i + 8) (omega arith))
 
       pub make_valued : (v ≡ 0 → ⊥) → value_here recs text d i p ≡ none
-      unfolding value_body if◌then◌else◌ ◌>>=◌ require
+      unfolding value_body when◌then◌else◌ ◌>>=◌ require
       make_valued z = value_is d (raw_at 4 recs i) (cursor recs text (i + 20) p) ∙ rw (no_set, no_link, plain_is 1 true g, value_m, ne_eqb v 0 z)
 
       module _ (z : v ≡ 0) where
         make_open : value_here recs text d i p ≡ prototypes_here recs text d (i + 20) p >>= λ y. require (some_prototype y.0) >>= λ _. some (extends (raw_at 4 recs i).place y.0, y.1)
-        unfolding value_body if◌then◌else◌ ◌>>=◌ require
+        unfolding value_body when◌then◌else◌ ◌>>=◌ require
         make_open = value_is d (raw_at 4 recs i) (cursor recs text (i + 20) p) ∙ rw (no_set, no_link, plain_is 1 true g, value_m, eq-eqb v 0 z)
 
         pub make_done : Bytes recs → (t : ℕ) → t ≡ word_at 2 recs (i + 20) → t ≡ 5 → value_here recs text d i p ≡ none

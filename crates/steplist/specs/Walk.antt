@@ -1,7 +1,7 @@
 -- What the code answers of statements: where their records and their text end, as the paper's readers say. Assumes nothing.
 use Rattle.std.specs.Prelude.{ℕ, suc, ◌+◌, ◌≤◌, ◌≡◌, List, ltb, eqb}
 use Rattle.std.proofs.Math.Option.{Option, none, some}
-use Rattle.paper.specs.Bytes.{if◌then◌else◌}
+use Rattle.paper.specs.Bytes.{when◌then◌else◌}
 use Rattle.paper.specs.Maybe.{◌>>=◌, require}
 use Rattle.paper.specs.Syntax.{Block, Statement, assign, Value, Prototypes, named, block}
 use Rattle.paper.specs.Decoder.{Cursor, Raw, record_at, field, path_of}
@@ -58,4 +58,4 @@ abbrev pub take_here : List ℕ → List ℕ → ℕ → ℕ → Option ((Protot
 take_here recs text i p = take_at (raw_at 4 recs i) (cursor recs text (i + 20) p)
 
 unfoldable pub prototype_here : List ℕ → List ℕ → ℕ → ℕ → ℕ → Option ((Prototypes → Prototypes) × Cursor)
-prototype_here recs text d i p = if eqb (word 2 recs i) 2 then take_here recs text i p else block_at d (raw_at 4 recs i) (cursor recs text (i + 20) p)
+prototype_here recs text d i p = when eqb (word 2 recs i) 2 then take_here recs text i p else block_at d (raw_at 4 recs i) (cursor recs text (i + 20) p)

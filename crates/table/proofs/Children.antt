@@ -11,7 +11,7 @@ use lib.ListN.{length, drop, get_or, drop_of_length-le}
 use lib.Seq.{drop-cons}
 use lib.Dec.{leb, ltb, eqb}
 use borrow.Author.Tests.{ltb-true, ltb-false, leb-true, lt-ltb, le-ltb, le-leb, lt-leb, eq-eqb, ne_eqb}
-use Rattle.paper.specs.Bytes.{same, if◌then◌else◌}
+use Rattle.paper.specs.Bytes.{same, when◌then◌else◌}
 use Rattle.paper.specs.Maybe.{require}
 use Rattle.paper.specs.Store.{Store, ∅, entry, Value, component, lookup}
 use Rattle.paper.specs.Store as S
@@ -168,7 +168,7 @@ module _ (recs text : List ℕ) (i n : ℕ) (b : Bytes recs) (l : 0 < n) where
 
 module _ (recs text : List ℕ) (i m k : ℕ) (f : m ≡ word 2 recs (i + 6)) (e : k ≡ word 2 recs i) where
   pub distinct_basic : (k ≡ 0 → ⊥) → DistinctInIs recs text i m true
-  unfolding entry_value raw_at if◌then◌else◌ distinct
+  unfolding entry_value raw_at when◌then◌else◌ distinct
   distinct_basic h =
       record {
         told = λ d p v after w.
@@ -180,7 +180,7 @@ module _ (recs text : List ℕ) (i m k : ℕ) (f : m ≡ word 2 recs (i + 6)) (e
       }
 
   pub distinct_component : (r : Bool) → k ≡ 0 → DistinctIs recs text (i + 16) (m - 1) r → DistinctInIs recs text i m r
-  unfolding entry_value raw_at if◌then◌else◌ distinct
+  unfolding entry_value raw_at when◌then◌else◌ distinct
   distinct_component r h D =
       record {
         told = λ d p v after w.
@@ -200,26 +200,26 @@ module _ (recs : List ℕ) (i left : ℕ) where
   test = leb (i + 16) (length recs) && (leb (word 2 recs (i + 6)) left && leb (i + 16 * word 2 recs (i + 6)) (length recs))
 
   pub span_yes : i + 16 ≤ length recs → word 2 recs (i + 6) ≤ left → i + 16 * word 2 recs (i + 6) ≤ length recs → word 2 recs (i + 6) ≡ span_in recs i left
-  unfolding span_in if◌then◌else◌
+  unfolding span_in when◌then◌else◌
   span_yes a b c = rw (le-leb (i + 16) (length recs) a, le-leb (word 2 recs (i + 6)) left b, le-leb (i + 16 * word 2 recs (i + 6)) (length recs) c)
 
   pub span_outside : length recs < i + 16 → 0 ≡ span_in recs i left
-  unfolding span_in if◌then◌else◌
+  unfolding span_in when◌then◌else◌
   span_outside a = rw (lt-leb (i + 16) (length recs) a)
 
   pub span_many : i + 16 ≤ length recs → left < word 2 recs (i + 6) → 0 ≡ span_in recs i left
-  unfolding span_in if◌then◌else◌
+  unfolding span_in when◌then◌else◌
   span_many a b = rw (le-leb (i + 16) (length recs) a, lt-leb (word 2 recs (i + 6)) left b)
 
   pub span_long : i + 16 ≤ length recs → word 2 recs (i + 6) ≤ left → length recs < i + 16 * word 2 recs (i + 6) → 0 ≡ span_in recs i left
-  unfolding span_in if◌then◌else◌
+  unfolding span_in when◌then◌else◌
   span_long a b c = rw (le-leb (i + 16) (length recs) a, le-leb (word 2 recs (i + 6)) left b, lt-leb (i + 16 * word 2 recs (i + 6)) (length recs) c)
 
   span_cases : SpanAt recs i left (span_in recs i left)
-  unfolding span_in if◌then◌else◌
+  unfolding span_in when◌then◌else◌
   span_cases = case test refl
     where
-      case : (t : Bool) → test ≡ t → SpanAt recs i left (if t then word 2 recs (i + 6) else 0)
+      case : (t : Bool) → test ≡ t → SpanAt recs i left (when t then word 2 recs (i + 6) else 0)
       case true e =
           let a = and_true (leb (i + 16) (length recs)) _ e in
           let b = and_true (leb (word 2 recs (i + 6)) left) _ a.1 in
@@ -240,24 +240,24 @@ module _ (recs : List ℕ) (i left : ℕ) where
 
 module _ (recs text name : List ℕ) where
   pub found_none : (f i left : ℕ) → left ≡ 0 → Nothing ≡ found_from f recs text i left name
-  unfolding found_from if◌then◌else◌
+  unfolding found_from when◌then◌else◌
   found_none zero i left z = refl
   found_none (suc f) i left z = rw (z, found_from)
 
   module _ (i left m : ℕ) (e : m ≡ span_in recs i left) (l : 0 < left) where
     pub found_stuck : (f : ℕ) → left ≤ f → m < 1 → Nothing ≡ found_from f recs text i left name
-    unfolding found_from if◌then◌else◌
+    unfolding found_from when◌then◌else◌
     found_stuck zero h k = absurd (omega arith)
     found_stuck (suc f) h k = rw (found_from, ne_eqb left 0 (λ z. omega arith), ← e, lt-ltb m 1 k)
 
     module _ (k : 1 ≤ m) where
       pub found_here : (f : ℕ) → left ≤ f → same (named_at recs text i) name ≡ true → At i ≡ found_from f recs text i left name
-      unfolding found_from if◌then◌else◌
+      unfolding found_from when◌then◌else◌
       found_here zero h s = absurd (omega arith)
       found_here (suc f) h s = rw (found_from, ne_eqb left 0 (λ z. omega arith), ← e, le-ltb m 1 k, s)
 
       pub found_on : (f : ℕ) → left ≤ f → same (named_at recs text i) name ≡ false → found_from f recs text i left name ≡ found_from (f - 1) recs text (i + 16 * m) (left - m) name
-      unfolding found_from if◌then◌else◌
+      unfolding found_from when◌then◌else◌
       found_on zero h s = absurd (omega arith)
       found_on (suc f) h s =
           let q : suc f - 1 ≡ f = omega arith in

@@ -8,7 +8,7 @@ use mathlib.Core.List.{List}
 use mathlib.Core.Option.{none}
 use lib.ListN.{length}
 use borrow.Author.Tests.{eq-eqb, ne_eqb}
-use Rattle.paper.specs.Bytes.{if◌then◌else◌}
+use Rattle.paper.specs.Bytes.{when◌then◌else◌}
 use Rattle.paper.specs.Maybe.{◌>>=◌, require}
 use Rattle.paper.specs.Store.{∅, entry, component}
 use Rattle.paper.specs.Store as S
@@ -37,7 +37,7 @@ module _ (recs text : List ℕ) (d m i p : ℕ) (b : Bytes recs) (l : i + 16 ≤
   e = a ∙ word_in 2 recs i (omega arith)
 
   pub value_basic : (r : Walk) → (k ≡ 0 → ⊥) → WalkIs (basic_here Table recs text d m i p) recs text r → WalkIs (value_here recs text d i p) recs text r
-  unfolding entry_value raw_at size_of form_of in_table if◌then◌else◌
+  unfolding entry_value raw_at size_of form_of in_table when◌then◌else◌
   value_basic r h w =
       let q = basic_inside Table recs text i p b d m l in
       rw (← e, ne_eqb k 0 h, ← s) (onto recs text _ S.basic r (rw (q, ← e) at w))
@@ -47,11 +47,11 @@ module _ (recs text : List ℕ) (d m i p : ℕ) (b : Bytes recs) (l : i + 16 ≤
     f = g ∙ word_in 8 recs (i + 8) (omega arith)
 
     pub value_valued : (v ≡ 0 → ⊥) → value_here recs text d i p ≡ none
-    unfolding entry_value raw_at if◌then◌else◌ ◌>>=◌ require
+    unfolding entry_value raw_at when◌then◌else◌ ◌>>=◌ require
     value_valued h = rw (← e, z, ← f, ne_eqb v 0 h)
 
     pub value_component : (r : Walk) → v ≡ 0 → WalkIs (entries_here recs text (d + 1) (m - 1) (i + 16) p) recs text r → WalkIs (value_here recs text d i p) recs text r
-    unfolding entry_value raw_at if◌then◌else◌ ◌>>=◌ require
+    unfolding entry_value raw_at when◌then◌else◌ ◌>>=◌ require
     value_component r h w = rw (← e, z, ← f, eq-eqb v 0 h, ← s) (onto recs text _ component r (rw (add-one d) at w))
 
 -- ---- attributes

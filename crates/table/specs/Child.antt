@@ -2,7 +2,7 @@
 -- Assumes nothing.
 use Rattle.std.specs.Prelude.{ℕ, zero, suc, ◌+◌, ◌-◌, ◌*◌, ◌≤◌, ◌<◌, ◌≡◌, Bool, ◌&&◌, List, length, get_or, leb, ltb, eqb}
 use Rattle.std.proofs.Math.Option.{none, some}
-use Rattle.paper.specs.Bytes.{same, if◌then◌else◌}
+use Rattle.paper.specs.Bytes.{same, when◌then◌else◌}
 use Rattle.paper.specs.Syntax.{Name}
 use Rattle.paper.specs.Store.{Store, entry, Value, lookup}
 use Rattle.paper.specs.Decoder.{Cursor}
@@ -32,15 +32,15 @@ pub record SpanAt (recs : List ℕ) (i left m : ℕ) : Type 0 where
 -- the span of the record at i, where it leads to the next within what is left; else 0
 unfoldable pub span_in : List ℕ → ℕ → ℕ → ℕ
 span_in recs i left =
-    if leb (i + 16) (length recs) && (leb (word 2 recs (i + 6)) left && leb (i + 16 * word 2 recs (i + 6)) (length recs)) then word 2 recs (i + 6) else 0
+    when leb (i + 16) (length recs) && (leb (word 2 recs (i + 6)) left && leb (i + 16 * word 2 recs (i + 6)) (length recs)) then word 2 recs (i + 6) else 0
 
 -- the first of the attributes at i that has the name, of which there are so many records; the first number, no less, counts the turns
 unfoldable pub found_from : ℕ → List ℕ → List ℕ → ℕ → ℕ → List ℕ → Found
 found_from zero recs text i left name = Nothing
 found_from (suc f) recs text i left name =
-    if eqb left 0 then Nothing else
-    if ltb (span_in recs i left) 1 then Nothing else
-    if same (named_at recs text i) name then At i else
+    when eqb left 0 then Nothing else
+    when ltb (span_in recs i left) 1 then Nothing else
+    when same (named_at recs text i) name then At i else
     found_from f recs text (i + 16 * span_in recs i left) (left - span_in recs i left) name
 
 unfoldable pub found_in : List ℕ → List ℕ → ℕ → ℕ → List ℕ → Found

@@ -11,7 +11,7 @@ use lib.Seq.{drop-cons, get_or-drop, get_or-take}
 use lib.Dec.{leb, ltb}
 use lib.IntN.{pos, negsuc, neg_ℤ}
 use borrow.Author.Tests.{le-leb, lt-leb, ltb-true, ltb-false, leb-true}
-use Rattle.paper.specs.Bytes.{at, is, among, if◌then◌else◌}
+use Rattle.paper.specs.Bytes.{at, is, among, when◌then◌else◌}
 use Rattle.paper.specs.Tokens.{digit, count, valued, in_range}
 use Rattle.paper.specs.Scanner.{span, digits_after, sign, whole, fraction, exponent}
 use Rattle.paper.specs.Layout.{complement}
@@ -42,27 +42,27 @@ after_end n e s h f = go (span digit (drop n s)) refl
 
 module _ (s : List ℕ) where
   pub whole_minus : is "-" (at s 0) ≡ true → digits_after 1 s ≡ whole s
-  unfolding whole sign if◌then◌else◌
+  unfolding whole sign when◌then◌else◌
   whole_minus e = rw e
 
   pub whole_plain : is "-" (at s 0) ≡ false → digits_after 0 s ≡ whole s
-  unfolding whole sign if◌then◌else◌
+  unfolding whole sign when◌then◌else◌
   whole_plain e = rw e
 
   pub fraction_point : is "." (at s 0) ≡ true → digits_after 1 s ≡ fraction s
-  unfolding fraction if◌then◌else◌
+  unfolding fraction when◌then◌else◌
   fraction_point e = rw e
 
   pub fraction_none : is "." (at s 0) ≡ false → 0 ≡ fraction s
-  unfolding fraction if◌then◌else◌
+  unfolding fraction when◌then◌else◌
   fraction_none e = rw e
 
   pub exponent_some : among "eE" (at s 0) ≡ true → digits_after (1 + sign (among "+-") (at s 1)) s ≡ exponent s
-  unfolding exponent if◌then◌else◌
+  unfolding exponent when◌then◌else◌
   exponent_some e = rw e
 
   pub exponent_none : among "eE" (at s 0) ≡ false → 0 ≡ exponent s
-  unfolding exponent if◌then◌else◌
+  unfolding exponent when◌then◌else◌
   exponent_none e = rw e
 
 -- ---- they lie within the source
@@ -118,11 +118,11 @@ unfolding count
 count_end s v i n h e = e ∙ ap (count v) (drop_of_length-le s h)
 
 pub too_large : (limit v : ℕ) → limit < v → TooLarge ≡ amount_of limit v
-unfolding amount_of if◌then◌else◌
+unfolding amount_of when◌then◌else◌
 too_large limit v h = simp (lt-leb v limit h)
 
 pub fits : (limit v : ℕ) → v ≤ limit → Fits v ≡ amount_of limit v
-unfolding amount_of if◌then◌else◌
+unfolding amount_of when◌then◌else◌
 fits limit v h = simp (le-leb v limit h)
 
 -- ---- integers
@@ -142,7 +142,7 @@ minus (Fits v) = Fits (complement_of v)
 minus TooLarge = TooLarge
 
 in_range_pos : (n : ℕ) → amount_of 9223372036854775807 n ≡ integer_of (pos n)
-unfolding integer_of complement in_range if◌then◌else◌
+unfolding integer_of complement in_range when◌then◌else◌
 in_range_pos n = go (ltb n (2 ^ 63)) refl
   where
     go : (c : Bool) → ltb n (2 ^ 63) ≡ c → amount_of 9223372036854775807 n ≡ integer_of (pos n)
@@ -150,7 +150,7 @@ in_range_pos n = go (ltb n (2 ^ 63)) refl
     go false e = let h = ltb-false n (2 ^ 63) e in sym (too_large 9223372036854775807 n (omega arith)) ∙ rw e
 
 in_range_neg : (v : ℕ) → minus (amount_of 9223372036854775808 v) ≡ integer_of (neg_ℤ (pos v))
-unfolding integer_of complement complement_of in_range if◌then◌else◌
+unfolding integer_of complement complement_of in_range when◌then◌else◌
 in_range_neg zero = ap minus (sym (fits 9223372036854775808 0 (omega arith)))
 in_range_neg (suc k) = go (ltb k (2 ^ 63)) refl
   where
@@ -160,11 +160,11 @@ in_range_neg (suc k) = go (ltb k (2 ^ 63)) refl
 
 module _ (s : List ℕ) where
   pub integer_plain : is "-" (at s 0) ≡ false → amount_of 9223372036854775807 (count 0 s) ≡ integer_of (valued s)
-  unfolding valued if◌then◌else◌
+  unfolding valued when◌then◌else◌
   integer_plain e = rw e (in_range_pos (count 0 s))
 
   pub integer_minus : is "-" (at s 0) ≡ true → minus (amount_of 9223372036854775808 (count 0 (drop 1 s))) ≡ integer_of (valued s)
-  unfolding valued if◌then◌else◌
+  unfolding valued when◌then◌else◌
   integer_minus e = rw e (in_range_neg (count 0 (drop 1 s)))
 
 -- ---- the bytes of an integer are digits
@@ -202,9 +202,9 @@ whole_digits n s e i l h =
     omega (arith, get_or-take n s i 0 m, after_digits (sign (is "-") (at s 0)) n s e i (omega arith) m)
 
 pub sign_none : (p : ℕ → Bool) (b : ℕ) → p b ≡ false → sign p b ≡ 0
-unfolding sign if◌then◌else◌
+unfolding sign when◌then◌else◌
 sign_none p b e = rw e
 
 pub sign_one : (p : ℕ → Bool) (b : ℕ) → p b ≡ true → sign p b ≡ 1
-unfolding sign if◌then◌else◌
+unfolding sign when◌then◌else◌
 sign_one p b e = rw e

@@ -9,7 +9,7 @@ use lib.ListN.{length, take}
 use lib.Seq.{length-take-le}
 use lib.Dec.{leb}
 use borrow.Author.Tests.{eq-eqb, ne_eqb, le-leb, lt-leb, lt-ltb, le-ltb, not-true, not-false}
-use Rattle.paper.specs.Bytes.{at, is, among, if◌then◌else◌}
+use Rattle.paper.specs.Bytes.{at, is, among, when◌then◌else◌}
 use Rattle.paper.specs.Syntax.{integer, string}
 use Rattle.paper.specs.Tokens.{starts, digit, goes_on, in_range, valued, reserved, literal, mark}
 use Rattle.paper.specs.Scanner.{token, fault, span, named, number, text, scan, whole, empty}
@@ -30,11 +30,11 @@ use Rattle.tokens.specs.Scans.{scan_of, numbered, ends_at, integer_front}
 
 module _ (n : ℕ) (s : List ℕ) where
   pub name_fits : n ≤ 255 → Read (word_from 0 (take n s) reserved) n ≡ scan_of (named n s)
-  unfolding scan_of kind_of named if◌then◌else◌
+  unfolding scan_of kind_of named when◌then◌else◌
   name_fits h = rw (le-leb n 255 h)
 
   pub name_long : 255 < n → Fault 6 ≡ scan_of (named n s)
-  unfolding scan_of named if◌then◌else◌
+  unfolding scan_of named when◌then◌else◌
   name_long h = rw (lt-leb n 255 h)
 
 -- ---- numbers
@@ -49,28 +49,28 @@ ends_no s m e = not-false _ e
 
 module _ (n m : ℕ) (s : List ℕ) where
   pub number_none : n ≡ 0 → Fault 2 ≡ scan_of (number n m s)
-  unfolding scan_of number if◌then◌else◌
+  unfolding scan_of number when◌then◌else◌
   number_none h = rw (eq-eqb n 0 h)
 
   module _ (some : n ≡ 0 → ⊥) where
     pub number_follows : ends_at s m ≡ false → Fault 2 ≡ scan_of (number n m s)
-    unfolding scan_of number if◌then◌else◌
+    unfolding scan_of number when◌then◌else◌
     number_follows e = rw (ne_eqb n 0 some, ends_no s m e)
 
     module _ (e : ends_at s m ≡ true) where
       pub number_decimal : n < m → m ≤ 4095 → Read Decimal m ≡ scan_of (number n m s)
-      unfolding scan_of kind_of literal_kind number if◌then◌else◌
+      unfolding scan_of kind_of literal_kind number when◌then◌else◌
       number_decimal l h = rw (ne_eqb n 0 some, ends_yes s m e, lt-ltb n m l, le-leb m 4095 h)
 
       pub number_long : n < m → 4095 < m → Fault 6 ≡ scan_of (number n m s)
-      unfolding scan_of number if◌then◌else◌
+      unfolding scan_of number when◌then◌else◌
       number_long l h = rw (ne_eqb n 0 some, ends_yes s m e, lt-ltb n m l, lt-leb m 4095 h)
 
       pub number_integer : m ≤ n → n ≤ length s → integer_front (take n s) ≡ scan_of (number n m s)
-      unfolding scan_of kind_of literal_kind number integer_front if◌then◌else◌
+      unfolding scan_of kind_of literal_kind number integer_front when◌then◌else◌
       number_integer l h = rw (ne_eqb n 0 some, ends_yes s m e, le-ltb n m l, length-take-le n s h) (go (in_range (valued (take n s))))
         where
-          go : (c : Bool) → (if c then Read (Integer (complement (valued (take n s)))) n else Fault 4) ≡ scan_of (if c then token (literal (integer (valued (take n s)))) n else fault 4)
+          go : (c : Bool) → (when c then Read (Integer (complement (valued (take n s)))) n else Fault 4) ≡ scan_of (when c then token (literal (integer (valued (take n s)))) n else fault 4)
           go true = refl
           go false = refl
 
@@ -80,37 +80,37 @@ as_front n (Fits v) = Read (Integer v) n
 as_front n TooLarge = Fault 4
 
 pub integer_front_lem : (s : List ℕ) → as_front (length s) (integer_of (valued s)) ≡ integer_front s
-unfolding integer_of integer_front if◌then◌else◌
+unfolding integer_of integer_front when◌then◌else◌
 integer_front_lem s = go (in_range (valued s))
   where
-    go : (c : Bool) → as_front (length s) (if c then Fits (complement (valued s)) else TooLarge) ≡ (if c then Read (Integer (complement (valued s))) (length s) else Fault 4)
+    go : (c : Bool) → as_front (length s) (when c then Fits (complement (valued s)) else TooLarge) ≡ (when c then Read (Integer (complement (valued s))) (length s) else Fault 4)
     go true = refl
     go false = refl
 
 -- ---- strings
 
 abbrev pub as_text : Quoted → Front
-as_text (Closed c e) = if leb c 4095 then Read (Text c) e else Fault 6
+as_text (Closed c e) = when leb c 4095 then Read (Text c) e else Fault 6
 as_text Unclosed = Fault 2
 
 pub text_front : (o : Option (List ℕ × ℕ)) → as_text (quoted_of 0 1 o) ≡ scan_of (text o)
-unfolding quoted_of text scan_of kind_of literal_kind if◌then◌else◌
+unfolding quoted_of text scan_of kind_of literal_kind when◌then◌else◌
 text_front none = refl
 text_front (some r) =
     let p : 0 + length r.0 ≡ length r.0 = omega arith in
     let q : 1 + r.1 ≡ suc r.1 = omega arith in
     ap₂ (λ (x y : ℕ). as_text (Closed x y)) p q ∙ go (leb (length r.0) 4095)
   where
-    go : (c : Bool) → (if c then Read (Text (length r.0)) (suc r.1) else Fault 6) ≡ scan_of (if c then token (literal (string r.0)) (suc r.1) else fault 6)
+    go : (c : Bool) → (when c then Read (Text (length r.0)) (suc r.1) else Fault 6) ≡ scan_of (when c then token (literal (string r.0)) (suc r.1) else fault 6)
     go true = refl
     go false = refl
 
 pub text_fits : (c e : ℕ) → c ≤ 4095 → Read (Text c) e ≡ as_text (Closed c e)
-unfolding if◌then◌else◌
+unfolding when◌then◌else◌
 text_fits c e h = rw (le-leb c 4095 h)
 
 pub text_long : (c e : ℕ) → 4095 < c → Fault 6 ≡ as_text (Closed c e)
-unfolding if◌then◌else◌
+unfolding when◌then◌else◌
 text_long c e h = rw (lt-leb c 4095 h)
 
 -- ---- which token it is
@@ -120,27 +120,27 @@ not_empty [] h = absurd (h refl)
 not_empty (b ∷ s) h = refl
 
 pub scan_end : (s : List ℕ) → length s ≡ 0 → Read End 0 ≡ scan_of (scan s)
-unfolding scan scan_of kind_of if◌then◌else◌
+unfolding scan scan_of kind_of when◌then◌else◌
 scan_end [] h = refl
 scan_end (b ∷ s) h = absurd (omega arith)
 
 module _ (s : List ℕ) (h : length s ≡ 0 → ⊥) where
   pub scan_name : starts (at s 0) ≡ true → scan s ≡ named (span goes_on s) s
-  unfolding scan if◌then◌else◌
+  unfolding scan when◌then◌else◌
   scan_name e = rw (not_empty s h, e)
 
   module _ (e : starts (at s 0) ≡ false) where
     pub scan_number : (digit (at s 0) || is "-" (at s 0)) ≡ true → scan s ≡ numbered s
-    unfolding scan numbered number_len if◌then◌else◌
+    unfolding scan numbered number_len when◌then◌else◌
     scan_number f = rw (not_empty s h, e, f)
 
     module _ (f : (digit (at s 0) || is "-" (at s 0)) ≡ false) where
       pub scan_mark : is "\"" (at s 0) ≡ false → among ";,{}[]:" (at s 0) ≡ true → scan s ≡ token (mark (at s 0)) 1
-      unfolding scan if◌then◌else◌
+      unfolding scan when◌then◌else◌
       scan_mark g k = rw (not_empty s h, e, f, g, k)
 
       pub scan_other : is "\"" (at s 0) ≡ false → among ";,{}[]:" (at s 0) ≡ false → scan s ≡ fault 2
-      unfolding scan if◌then◌else◌
+      unfolding scan when◌then◌else◌
       scan_other g k = rw (not_empty s h, e, f, g, k)
 
 -- a byte that goes on a name and begins none is a digit or a minus

@@ -12,7 +12,7 @@ use lib.Dec.{eqb, lit<}
 use borrow.Author.Tests.{eqb-true}
 use Rattle.theorems.proofs.Scanned.Classes.{and_right}
 use Rattle.theorems.proofs.Laws.Rescan.{span_le}
-use Rattle.paper.specs.Bytes.{at, is, if◌then◌else◌}
+use Rattle.paper.specs.Bytes.{at, is, when◌then◌else◌}
 use Rattle.paper.specs.Answer.{Answer, ok, refused}
 use Rattle.paper.specs.Tokens.{blank, Here}
 use Rattle.paper.specs.Scanner.{span, closing, gap, skip, past}
@@ -72,23 +72,23 @@ no_LF b = not (is "\n" b)
 
 module _ (s : List ℕ) where
   gap_blank : blank (at s 0) ≡ true → gap s ≡ some 1
-  unfolding gap if◌then◌else◌
+  unfolding gap when◌then◌else◌
   gap_blank e = rw e
 
   gap_plain : blank (at s 0) ≡ false → is "/" (at s 0) ≡ false → gap s ≡ some 0
-  unfolding gap if◌then◌else◌
+  unfolding gap when◌then◌else◌
   gap_plain e f = rw (e, f)
 
   gap_line : blank (at s 0) ≡ false → is "/" (at s 0) ≡ true → is "/" (at s 1) ≡ true → gap s ≡ some (2 + span no_LF (drop 2 s))
-  unfolding gap if◌then◌else◌
+  unfolding gap when◌then◌else◌
   gap_line e f g = rw (e, f, g)
 
   gap_comment : blank (at s 0) ≡ false → is "/" (at s 0) ≡ true → is "/" (at s 1) ≡ false → is "*" (at s 1) ≡ true → gap s ≡ elim (closing (drop 2 s)) [ none ↦ none | some n ↦ some (2 + n) ]
-  unfolding gap if◌then◌else◌
+  unfolding gap when◌then◌else◌
   gap_comment e f g h = rw (e, f, g, h)
 
   gap_slash : blank (at s 0) ≡ false → is "/" (at s 0) ≡ true → is "/" (at s 1) ≡ false → is "*" (at s 1) ≡ false → gap s ≡ some 0
-  unfolding gap if◌then◌else◌
+  unfolding gap when◌then◌else◌
   gap_slash e f g h = rw (e, f, g, h)
 
 -- at the place i of s
@@ -202,7 +202,7 @@ skip_more f p n s e = rw (e, skip)
 
 -- a count that is enough may be any other that is
 enough : (f g p : ℕ) (s : List ℕ) → length s ≤ f → length s ≤ g → skip f (from p s) ≡ skip g (from p s)
-unfolding skip gap blank if◌then◌else◌
+unfolding skip gap blank when◌then◌else◌
 enough zero zero p s l m = refl
 enough zero (suc g) p [] l m = sym (skip_zero g p [] refl)
 enough zero (suc g) p (b ∷ s) l m = absurd (omega arith)
@@ -304,5 +304,5 @@ module _ (s : List ℕ) (i : ℕ) where
   opens h = ap skip_of (sym (skips_open i (drop i s) (told_never h (gap (drop i s)) refl)))
 
   pub ends_at : length s ≤ i → To i ≡ skip_of (skips i (drop i s))
-  unfolding skip_of gap blank if◌then◌else◌
+  unfolding skip_of gap blank when◌then◌else◌
   ends_at l = ap skip_of (sym (skips_stop i (drop i s) (ap gap (drop_of_length-le s l))))

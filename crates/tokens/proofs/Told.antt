@@ -10,7 +10,7 @@ use lib.ListN.{length, take, drop, get_or, length-drop}
 use lib.Seq.{drop-drop, length-take-le}
 use lib.Dec.{eqb}
 use borrow.Author.Tests.{le-leb}
-use Rattle.paper.specs.Bytes.{bytes, at, is, same, if◌then◌else◌}
+use Rattle.paper.specs.Bytes.{bytes, at, is, same, when◌then◌else◌}
 use Rattle.paper.specs.Answer.{Answer, ok, refused}
 use Rattle.paper.specs.Syntax.{Basic, integer, decimal, string}
 use Rattle.paper.specs.Tokens.{Token, name, literal, mark, end, Here, reserved, member, valued, in_range, is_name, is_mark}
@@ -263,14 +263,14 @@ module _ (src : List ℕ) (p : ℕ) (inside : p ≤ length src) where
 module _ (src : List ℕ) (p a e : ℕ) (h : a ≤ e) (l : p + e ≤ length src) where
   -- from the rest, `token_part(&src[p..], a, e)`
   pub part_of_rest : part_of a e (drop p src) ≡ part src p a e
-  unfolding part_of if◌then◌else◌
+  unfolding part_of when◌then◌else◌
   part_of_rest =
       let k : e ≤ length (drop p src) = omega (arith, length-drop p src) in
       rw (le-leb a e h, le-leb e (length (drop p src)) k) (ap (take (e - a)) (drop-drop a p src))
 
   -- from the whole source, `token_part(src, p + a, p + e)`
   pub part_of_source : part_of (p + a) (p + e) src ≡ part src p a e
-  unfolding part_of if◌then◌else◌
+  unfolding part_of when◌then◌else◌
   part_of_source =
       let k : p + a ≤ p + e = omega arith in
       let m : p + e - (p + a) ≡ e - a = omega arith in

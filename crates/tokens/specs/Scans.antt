@@ -1,6 +1,6 @@
 -- What the code answers of the token at the front, as the paper's answers. Assumes nothing.
 use Rattle.std.specs.Prelude.{ℕ, Bool, not, ◌||◌, List, length}
-use Rattle.paper.specs.Bytes.{at, is, if◌then◌else◌}
+use Rattle.paper.specs.Bytes.{at, is, when◌then◌else◌}
 use Rattle.paper.specs.Tokens.{goes_on, in_range, valued}
 use Rattle.paper.specs.Scanner.{Scanned, token, fault, whole, number}
 use Rattle.paper.specs.Layout.{complement}
@@ -23,4 +23,4 @@ ends_at s m = not (goes_on (at s m) || is "." (at s m))
 
 -- all of s as an integer
 unfoldable pub integer_front : List ℕ → Front
-integer_front s = if in_range (valued s) then Read (Integer (complement (valued s))) (length s) else Fault 4
+integer_front s = when in_range (valued s) then Read (Integer (complement (valued s))) (length s) else Fault 4

@@ -1,6 +1,6 @@
 -- The row that a draft stands for: its texts read again from the source. Assumes nothing.
 use Rattle.std.specs.Prelude.{ℕ, zero, suc, ◌+◌, ◌*◌, ◌≡◌, Bool, true, false, ◌||◌, List, [], ◌∷◌, ◌++◌, drop, eqb}
-use Rattle.paper.specs.Bytes.{if◌then◌else◌}
+use Rattle.paper.specs.Bytes.{when◌then◌else◌}
 use Rattle.paper.specs.Answer.{Answer, ok, refused}
 use Rattle.paper.specs.Syntax.{Path, Basic, boolean, null, integer, decimal, string, reference, vector}
 use Rattle.paper.specs.Tokens.{name, literal, mark, end, Here}
@@ -59,7 +59,7 @@ with_texts f p v = record { step = f.step; kind = f.kind; path = p; span = f.spa
 -- ---- rows
 
 unfoldable pub label_at : List ℕ → ℕ → ℕ → Field
-label_at s i p = if has_path i then text (path_text (path_at s p)) else number 0
+label_at s i p = when has_path i then text (path_text (path_at s p)) else number 0
 
 -- a value that is a decimal's or a string's text
 unfoldable pub is_long : ℕ → Bool
@@ -67,12 +67,12 @@ is_long k = eqb k 4 || eqb k 5
 
 -- a field's figure: where its text begins, or its number
 unfoldable pub figure_of : Bool → ℕ → ℕ → ℕ
-figure_of textual v t = if textual then t else v
+figure_of textual v t = when textual then t else v
 
 unfoldable pub value_at : List ℕ → ℕ → ℕ → ℕ → Field
 value_at s i k v =
-    if is_path i k then text (path_text (path_at s v)) else
-    if is_long k then text (long_text (said_at s v)) else
+    when is_path i k then text (path_text (path_at s v)) else
+    when is_long k then text (long_text (said_at s v)) else
     number v
 
 unfoldable pub settled : List ℕ → Fields → Row

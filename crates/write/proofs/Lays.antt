@@ -8,7 +8,7 @@ use mathlib.Core.Logic.{◌⊎◌, ⊎_elim}
 use lib.ListN.{length, take, drop, length-append, length-drop}
 use lib.Seq.{take_all, take-nil}
 use borrow.Author.Tests.{le-leb, lt-leb}
-use Rattle.paper.specs.Bytes.{if◌then◌else◌}
+use Rattle.paper.specs.Bytes.{when◌then◌else◌}
 use Rattle.paper.specs.Layout.{Row, little, row_bytes, row_text, records, texts, laid_out}
 use Rattle.theorems.proofs.Decoded.Parts.{length_little}
 use Rattle.theorems.proofs.Decoded.Header.{Lasts, records_length}
@@ -243,14 +243,14 @@ module _ (up : ℕ) (ys : List Row) (o : List ℕ) where
       ∙ ap (λ s. 24 + 16 * length ys + length s) (spanned_texts up ys)
 
   pub table_short : length o < 24 + 16 * length ys + length (texts ys) → (o ≡ stored o 0 (tabled up ys)) × (0 ≡ fitted (tabled up ys) o)
-  unfolding fitted if◌then◌else◌
+  unfolding fitted when◌then◌else◌
   table_short h =
       let l : length o < length (tabled up ys) = rw tabled_length h in
       (sym (stored_out o 0 (tabled up ys) (omega arith)), rw (lt-leb (length (tabled up ys)) (length o) l))
 
   pub table_put : (o₁ o₂ : List ℕ) → 24 + 16 * length ys + length (texts ys) ≤ length o → o₁ ≡ stored o 0 (head (length ys) (length (texts ys))) → o₂ ≡ lay (24 + 16 * length ys) o₁ 24 0 (spanned up ys)
       → (o₂ ≡ stored o 0 (tabled up ys)) × (24 + 16 * length ys + length (texts ys) ≡ fitted (tabled up ys) o)
-  unfolding fitted tabled if◌then◌else◌
+  unfolding fitted tabled when◌then◌else◌
   table_put o₁ o₂ h e f =
       let xs = spanned up ys in
       let sl = spanned_length up ys in

@@ -8,7 +8,7 @@ use lib.ListN.{length, drop, length-append, length-drop}
 use lib.Dec.{ltb}
 use mathlib.Core.Bool.{Bool, true, false}
 use borrow.Author.Tests.{le-leb, lt-leb, eq-eqb, ne_eqb}
-use Rattle.paper.specs.Bytes.{if◌then◌else◌}
+use Rattle.paper.specs.Bytes.{when◌then◌else◌}
 use Rattle.paper.specs.Layout.{Row, little, text_of, figure}
 use Rattle.paper.specs.Layout as Layout
 use Rattle.theorems.proofs.Decoded.Parts.{length_little}
@@ -24,24 +24,24 @@ use Rattle.write.specs.Lay.{Stand}
 -- ---- figures
 
 pub label_none : (t u : List ℕ) (p pos : ℕ) → p ≡ 65535 → p ≡ figure pos (label_of t u p) % 65536
-unfolding figure label_of if◌then◌else◌
+unfolding figure label_of when◌then◌else◌
 label_none t u p pos h = rw (eq-eqb p 65535 h) h
 
 pub label_some : (t u : List ℕ) (p pos : ℕ) → (p ≡ 65535 → ⊥) → pos % 65536 ≡ figure pos (label_of t u p) % 65536
-unfolding figure label_of if◌then◌else◌
+unfolding figure label_of when◌then◌else◌
 label_some t u p pos h = rw (ne_eqb p 65535 h)
 
 module _ (t u : List ℕ) (k v m pos : ℕ) where
   pub value_low : k < 4 → v ≡ figure pos (value_of t u k v m)
-  unfolding figure value_of if◌then◌else◌
+  unfolding figure value_of when◌then◌else◌
   value_low h = rw (lt-leb 4 k h)
 
   pub value_high : 4 ≤ k → 6 < k → v ≡ figure pos (value_of t u k v m)
-  unfolding figure value_of if◌then◌else◌
+  unfolding figure value_of when◌then◌else◌
   value_high h l = rw (le-leb 4 k h, lt-leb k 6 l)
 
   pub value_text : 4 ≤ k → k ≤ 6 → pos ≡ figure pos (value_of t u k v m)
-  unfolding figure value_of if◌then◌else◌
+  unfolding figure value_of when◌then◌else◌
   value_text h l = rw (le-leb 4 k h, le-leb k 6 l)
 
 -- ---- five numbers, one behind another
@@ -70,11 +70,11 @@ numbers_put w a b c e o at k d p m v h q₁ q₂ q₃ q₄ q₅ =
 -- ---- the span
 
 deeper_most : (d : ℕ) (xs : List Row) → deeper d xs ≤ length xs
-unfolding deeper if◌then◌else◌
+unfolding deeper when◌then◌else◌
 deeper_most d [] = omega arith
 deeper_most d (x ∷ xs) = case (ltb x.second d) (deeper_most d xs)
   where
-    case : (b : Bool) → deeper d xs ≤ length xs → (if b then 0 else suc (deeper d xs)) ≤ suc (length xs)
+    case : (b : Bool) → deeper d xs ≤ length xs → (when b then 0 else suc (deeper d xs)) ≤ suc (length xs)
     case true h = omega arith
     case false h = omega arith
 

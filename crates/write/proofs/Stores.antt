@@ -7,7 +7,7 @@ use mathlib.Core.List.{List, [], ◌∷◌, ◌++◌, append_assoc, append-nil, 
 use lib.ListN.{length, take, drop, length-append}
 use lib.Seq.{take_all, take_at, drop_at}
 use borrow.Author.Tests.{le-leb}
-use Rattle.paper.specs.Bytes.{if◌then◌else◌}
+use Rattle.paper.specs.Bytes.{when◌then◌else◌}
 use Rattle.paper.specs.Syntax.{Name, Basic, boolean, null, integer, decimal, string, reference, vector, Basics, εⱽ, ◌∷ⱽ◌}
 use Rattle.paper.specs.Store.{Store, ∅, entry, Value, basic, component}
 use Rattle.paper.specs.Layout.{Field, number, text, Row, table_row, name_text, kind, content, elements, each, rows, value_rows, row_text, texts, laid_out, table}
@@ -159,7 +159,7 @@ table_length s = ap length (sym (tabled_flat s)) ∙ tabled_length 0 (flat 1 s) 
     flat_texts (x ∷ xs) = ap (λ y. row_text x ++ y) (flat_texts xs)
 
 pub table_written : (s : Store) (o : List ℕ) → length (rows 1 s) ≤ 1024 → length (texts (rows 1 s)) ≤ 16384 → 32792 ≤ length o → (stored o 0 (table s) ≡ table s ++ drop (length (table s)) o) × (fitted (table s) o ≡ length (table s))
-unfolding fitted if◌then◌else◌
+unfolding fitted when◌then◌else◌
 table_written s o h l m =
     let k : length (table s) ≤ length o = omega (arith, table_length s) in
     (stored_front o (table s) k, rw (le-leb (length (table s)) (length o) k))

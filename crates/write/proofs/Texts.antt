@@ -7,7 +7,7 @@ use mathlib.Core.List.{List, [], ◌++◌}
 use mathlib.Core.Logic.{⊎_elim}
 use lib.ListN.{length, length-append}
 use borrow.Author.Tests.{le-leb, lt-leb, eq-eqb, ne_eqb}
-use Rattle.paper.specs.Bytes.{if◌then◌else◌}
+use Rattle.paper.specs.Bytes.{when◌then◌else◌}
 use Rattle.paper.specs.Layout.{text_of, row_text}
 use Rattle.memory.specs.Memory.{part_at, stored}
 use Rattle.memory.proofs.Laws.{fit, part_in, part_out, length_part, then_stored}
@@ -32,32 +32,32 @@ no_text t u = part_first t u 0 0 (omega arith) ∙ part_in t 0 0 (omega arith)
 module _ (t u w : List ℕ) (i : ℕ) where
   module _ (p : ℕ) (e : p ≡ field_at 2 w i 4) (r : List ℕ) where
     pub label_none : p ≡ 65535 → r ≡ text_part t u 0 0 → (r ≡ text_of (row_here t u w i).label) × (length r ≤ 256)
-    unfolding row_here label_of text_of if◌then◌else◌
+    unfolding row_here label_of text_of when◌then◌else◌
     label_none h f =
         let g : r ≡ [] = f ∙ no_text t u in
         (g ∙ rw (← e, eq-eqb p 65535 h), rw g (omega arith))
 
     pub label_some : (b : ℕ) → (p ≡ 65535 → ⊥) → b ≡ byte_of t u p → b < 256 → r ≡ text_part t u p (1 + b) → (r ≡ text_of (row_here t u w i).label) × (length r ≤ 256)
-    unfolding row_here label_of label_text text_of if◌then◌else◌
+    unfolding row_here label_of label_text text_of when◌then◌else◌
     label_some b h g l f =
         (f ∙ rw (← e, ne_eqb p 65535 h, ← g), rw f (omega (arith, text_short t u p (1 + b))))
 
   module _ (k : ℕ) (e : k ≡ field_at 2 w i 0) (r : List ℕ) where
     pub value_low : k < 4 → r ≡ text_part t u 0 0 → (r ≡ text_of (row_here t u w i).value) × (length r ≤ 65535)
-    unfolding row_here value_of text_of if◌then◌else◌
+    unfolding row_here value_of text_of when◌then◌else◌
     value_low h f =
         let g : r ≡ [] = f ∙ no_text t u in
         (g ∙ rw (← e, lt-leb 4 k h), rw g (omega arith))
 
     pub value_high : 4 ≤ k → 6 < k → r ≡ text_part t u 0 0 → (r ≡ text_of (row_here t u w i).value) × (length r ≤ 65535)
-    unfolding row_here value_of text_of if◌then◌else◌
+    unfolding row_here value_of text_of when◌then◌else◌
     value_high h l f =
         let g : r ≡ [] = f ∙ no_text t u in
         (g ∙ rw (← e, le-leb 4 k h, lt-leb k 6 l), rw g (omega arith))
 
     pub value_some : (a : List ℕ) (s m v : ℕ) → 4 ≤ k → k ≤ 6 → a ≡ text_of (row_here t u w i).label → s ≡ field_at 2 w i 6 → s ≤ 65535 → m ≡ s - length a → v ≡ field_at 8 w i 8 → r ≡ text_part t u v m
         → (r ≡ text_of (row_here t u w i).value) × (length r ≤ 65535)
-    unfolding row_here value_of text_of if◌then◌else◌
+    unfolding row_here value_of text_of when◌then◌else◌
     value_some a s m v h l q es ls em ev f =
         (f ∙ rw (← e, le-leb 4 k h, le-leb k 6 l, em, es, ev, q), rw f (omega (arith, text_short t u v m)))
 

@@ -1,6 +1,6 @@
 -- Rows as a table's bytes. Assumes nothing.
 use Rattle.std.specs.Prelude.{ℕ, suc, ◌-◌, List, [], ◌∷◌, length, take, drop, leb}
-use Rattle.paper.specs.Bytes.{if◌then◌else◌}
+use Rattle.paper.specs.Bytes.{when◌then◌else◌}
 use Rattle.paper.specs.Layout.{Row, laid_out}
 use Rattle.rows.specs.View.{rows_in}
 use Rattle.rows.specs.Search.{deeper}
@@ -22,4 +22,4 @@ chosen t u w n lo hi = take (hi - lo) (drop lo (rows_in t u w n))
 
 -- how many bytes are written: all, or none if they do not all fit
 unfoldable pub fitted : List ℕ → List ℕ → ℕ
-fitted b out = if leb (length b) (length out) then length b else 0
+fitted b out = when leb (length b) (length out) then length b else 0

@@ -5,7 +5,7 @@ use mathlib.Core.Path.{◌≡◌, refl}
 use mathlib.Core.Bool.{Bool, true, false, not, ◌||◌, false≢true}
 use mathlib.Core.List.{List}
 use lib.ListN.{length}
-use Rattle.paper.specs.Bytes.{bytes, if◌then◌else◌}
+use Rattle.paper.specs.Bytes.{bytes, when◌then◌else◌}
 use Rattle.paper.specs.Answer.{refused, ◌>>=◌}
 use Rattle.paper.specs.Tokens.{Token, name, mark, end, is_name, member, reserved}
 use Rattle.paper.specs.Scanner.{next}
@@ -48,11 +48,11 @@ module _ (s : List ℕ) (at p : ℕ) where
   -- ---- what no basic begins with
 
   pub no_basic : (n : List ℕ) → Stood s at (name n) p → NoWord (name n) → (f d : ℕ) → draft_basic (suc f) d (here s at) ≡ refused 3 p
-  unfolding draft_basic draft_word ◌>>=◌ if◌then◌else◌
+  unfolding draft_basic draft_word ◌>>=◌ when◌then◌else◌
   no_basic n N W f d = rw (N.is, draft_word, W.no_true, W.no_false, W.no_null, W.no_data)
 
   pub extends_basic : {e : ℕ} → Shown s at (name (bytes "extends")) p e → (f d : ℕ) → draft_basic (suc f) d (here s at) ≡ refused 3 p
-  unfolding draft_basic draft_word ◌>>=◌ if◌then◌else◌ is_word
+  unfolding draft_basic draft_word ◌>>=◌ when◌then◌else◌ is_word
   extends_basic N f d = rw N.is
 
   pub end_basic : Stood s at end p → (f d : ℕ) → draft_basic (suc f) d (here s at) ≡ refused 3 p
@@ -71,23 +71,23 @@ module _ (s : List ℕ) (at p : ℕ) where
 
   module _ (e : ℕ) where
     pub true_basic : Shown s at (name (bytes "true")) p e → BasicFound s at (Boolean true) e
-    unfolding draft_basic draft_word ◌>>=◌ if◌then◌else◌ is_word
+    unfolding draft_basic draft_word ◌>>=◌ when◌then◌else◌ is_word
     true_basic N = record { is = λ f d. rw N.is; ahead = omega (arith, N); within = N.within; light = omega (arith, N) }
 
     pub false_basic : Shown s at (name (bytes "false")) p e → BasicFound s at (Boolean false) e
-    unfolding draft_basic draft_word ◌>>=◌ if◌then◌else◌ is_word
+    unfolding draft_basic draft_word ◌>>=◌ when◌then◌else◌ is_word
     false_basic N = record { is = λ f d. rw N.is; ahead = omega (arith, N); within = N.within; light = omega (arith, N) }
 
     pub null_basic : Shown s at (name (bytes "NULL")) p e → BasicFound s at Null e
-    unfolding draft_basic draft_word ◌>>=◌ if◌then◌else◌ is_word
+    unfolding draft_basic draft_word ◌>>=◌ when◌then◌else◌ is_word
     null_basic N = record { is = λ f d. rw N.is; ahead = omega (arith, N); within = N.within; light = omega (arith, N) }
 
     pub data_basic : (g z : ℕ) → Shown s at (name (bytes "DATA")) p e → PathSeen s e g z → BasicFound s at (Data e z) g
-    unfolding draft_basic draft_word ◌>>=◌ if◌then◌else◌ is_word
+    unfolding draft_basic draft_word ◌>>=◌ when◌then◌else◌ is_word
     data_basic g z N P = record { is = λ f d. rw (N.is, P.is, P.size); ahead = omega (arith, N, P.ahead); within = P.within; light = omega (arith, N, P.light, P.ahead) }
 
     pub data_fault : (n q : ℕ) → Shown s at (name (bytes "DATA")) p e → path (here s e) ≡ refused n q → (f d : ℕ) → draft_basic (suc f) d (here s at) ≡ refused n q
-    unfolding draft_basic draft_word ◌>>=◌ if◌then◌else◌ is_word
+    unfolding draft_basic draft_word ◌>>=◌ when◌then◌else◌ is_word
     data_fault n q N P f d = rw (N.is, P)
 
     pub integer_basic : (x : ℕ) → IntegerSeen s at p e x → BasicFound s at (Integer x) e

@@ -9,7 +9,7 @@ use mathlib.Core.List.{List, [], ◌∷◌, ◌++◌, append_assoc}
 use lib.Dec.{ltb}
 use lib.ListN.{length, length-append}
 use borrow.Author.Tests.{lt-ltb}
-use Rattle.paper.specs.Bytes.{if◌then◌else◌}
+use Rattle.paper.specs.Bytes.{when◌then◌else◌}
 use Rattle.paper.specs.Answer.{Answer, ok, refused, ◌>>=◌, demand}
 use Rattle.paper.specs.Tokens.{Here, mark, is_mark}
 use Rattle.paper.specs.Scanner.{next}
@@ -64,8 +64,8 @@ refused_after {Y = Y} {Z = Z} (refused u v) a n p k e h = again (sym (h u v refl
     again : ◌≡◌ {A = Answer Y} (refused u v) (refused n p) → ◌≡◌ {A = Answer Z} (refused u v) (refused n p)
     again e = let x : u ≡ n = cc in let y : v ≡ p = cc in cc
 
-if_same : {A : Type 0} (c : Bool) {a b : A} (x : A) → a ≡ b → (if c then a else x) ≡ (if c then b else x)
-unfolding if◌then◌else◌
+if_same : {A : Type 0} (c : Bool) {a b : A} (x : A) → a ≡ b → (when c then a else x) ≡ (when c then b else x)
+unfolding when◌then◌else◌
 if_same true x e = e
 if_same false x e = refl
 
@@ -134,7 +134,7 @@ module _ (s : List ℕ) (from : Cursor) (d : ℕ) (b₀ : List ℕ) where
 unfoldable pub after_block : ℕ → ℕ → List Draft → Here → Answer (List Draft × Here)
 after_block n d bs at = do
   (u, _, _) ← next at
-  if is_mark "," u
+  when is_mark "," u
       then (do
         at ← expect "," at
         (es, at) ← draft_prototypes n d at
@@ -142,7 +142,7 @@ after_block n d bs at = do
       else ok (bs, at)
 
 block_first : (s : List ℕ) (at n d : ℕ) → NoName s at → draft_prototypes (suc n) d (here s at) ≡ draft_block n d (here s at) >>= (λ x. after_block n d x.0 x.1)
-unfolding draft_prototypes draft_block after_block ◌>>=◌ if◌then◌else◌
+unfolding draft_prototypes draft_block after_block ◌>>=◌ when◌then◌else◌
 block_first s at n d N =
     rw (N.stood.is, N.other)
     (sym (assoc (expect "{" (here s at)) _ _
@@ -158,7 +158,7 @@ module _ (s : List ℕ) (from : Cursor) (d : ℕ) (b₀ : List ℕ) where
   PrototypesOut b₁ r n = Answers itself s b₀ b₁ from r (draft_prototypes n d (here s from.at))
 
   pub prototypes_fault : (n p : ℕ) → RefFault s from.at n p → PrototypesRead s from d b₀ b₀ (Refused n p)
-  unfolding draft_prototypes ◌>>=◌ if◌then◌else◌
+  unfolding draft_prototypes ◌>>=◌ when◌then◌else◌
   prototypes_fault n p (no_token e) =
       record { is = fuel (PrototypesOut b₀ (Refused n p)) _ (omega arith) (λ m le. record { is = rw e; frame = frame_same b₀ }); ahead = tt }
   prototypes_fault n p (no_path N i e) =
@@ -181,7 +181,7 @@ module _ (s : List ℕ) (from : Cursor) (d : ℕ) (b₀ : List ℕ) where
     one_sized = omega (arith, R.whole.size)
 
     pub ref_fault : (n q : ℕ) → next (here s e) ≡ refused n q → PrototypesRead s from d b₀ b₁ (Refused n q)
-    unfolding draft_prototypes ◌>>=◌ if◌then◌else◌
+    unfolding draft_prototypes ◌>>=◌ when◌then◌else◌
     ref_fault n q f =
         record {
           is = fuel (PrototypesOut b₁ (Refused n q)) _ (omega arith) (λ m le. record { is = rw (R.stood.is, R.named, R.whole.is, f); frame = taken });
@@ -189,7 +189,7 @@ module _ (s : List ℕ) (from : Cursor) (d : ℕ) (b₀ : List ℕ) where
         }
 
     pub ref_last : NotMark s e 44 → (r : Went) → PassIs s (cursor e (from.count + 1) (from.text + z)) 59 r → PrototypesRead s from d b₀ b₁ r
-    unfolding draft_prototypes ◌>>=◌ if◌then◌else◌ the_draft
+    unfolding draft_prototypes ◌>>=◌ when◌then◌else◌ the_draft
     ref_last M (Refused n q) P =
         record {
           is = fuel (PrototypesOut b₁ (Refused n q)) _ (omega arith)
@@ -216,7 +216,7 @@ module _ (s : List ℕ) (from : Cursor) (d : ℕ) (b₀ : List ℕ) where
         }
 
     pub ref_more : (q g : ℕ) (b₂ : List ℕ) (r : Went) → Shown s e (mark 44) q g → PrototypesRead s (cursor g (from.count + 1) (from.text + z)) d b₁ b₂ r → PrototypesRead s from d b₀ b₂ r
-    unfolding draft_prototypes ◌>>=◌ if◌then◌else◌ is_mark the_draft
+    unfolding draft_prototypes ◌>>=◌ when◌then◌else◌ is_mark the_draft
     ref_more q g b₂ r M P =
         record {
           is = fuel (PrototypesOut b₂ r) _ (omega arith)
@@ -251,7 +251,7 @@ module _ (s : List ℕ) (from : Cursor) (d : ℕ) (b₀ : List ℕ) where
           }
 
       pub inner_last : NotMark s mid.at 44 → PrototypesRead s from d b₀ b₁ (Done mid)
-      unfolding ◌>>=◌ after_block if◌then◌else◌
+      unfolding ◌>>=◌ after_block when◌then◌else◌
       inner_last M =
           record {
             is = fuel (PrototypesOut b₁ (Done mid)) _ (omega arith)
@@ -262,7 +262,7 @@ module _ (s : List ℕ) (from : Cursor) (d : ℕ) (b₀ : List ℕ) where
           }
 
       pub inner_more : (q g : ℕ) (b₂ : List ℕ) (r : Went) → Shown s mid.at (mark 44) q g → PrototypesRead s (cursor g mid.count mid.text) d b₁ b₂ r → PrototypesRead s from d b₀ b₂ r
-      unfolding ◌>>=◌ after_block if◌then◌else◌ is_mark
+      unfolding ◌>>=◌ after_block when◌then◌else◌ is_mark
       inner_more q g b₂ r M P =
           record {
             is = fuel (PrototypesOut b₂ r) _ (omega arith)

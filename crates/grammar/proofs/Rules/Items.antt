@@ -9,7 +9,7 @@ use mathlib.Core.List.{List, [], ◌∷◌, ◌++◌}
 use lib.Dec.{ltb}
 use lib.ListN.{length}
 use borrow.Author.Tests.{lt-ltb}
-use Rattle.paper.specs.Bytes.{if◌then◌else◌}
+use Rattle.paper.specs.Bytes.{when◌then◌else◌}
 use Rattle.paper.specs.Answer.{refused, ◌>>=◌, demand}
 use Rattle.paper.specs.Tokens.{mark, is_mark}
 use Rattle.paper.specs.Scanner.{next}
@@ -79,7 +79,7 @@ module _ (s : List ℕ) (b : Basic) (o : Own) (from : Cursor) (d : ℕ) (b₀ : 
 
       pub basic_empty : (b₁ : List ℕ) (q g : ℕ) → FitBasic s b o from b₀ → Shown s from.at (mark 93) q g → b₁ ≡ put_row b₀ from.count (own_row o 7 1 0)
           → BasicRead s b o from d b₀ b₁ (Done (cursor g (from.count + 1) (from.text + o.size)))
-      unfolding rest_vector ◌>>=◌ demand is_mark if◌then◌else◌ own_drafts puts draft several text_size
+      unfolding rest_vector ◌>>=◌ demand is_mark when◌then◌else◌ own_drafts puts draft several text_size
       basic_empty b₁ q g F M w =
           record {
             is = λ n le. record {
@@ -95,7 +95,7 @@ module _ (s : List ℕ) (b : Basic) (o : Own) (from : Cursor) (d : ℕ) (b₀ : 
 
       module _ (M : NotMark s from.at 93) (b₁ : List ℕ) where
         pub basic_no : (n q : ℕ) → ItemsRead s (cursor from.at (from.count + 1) (from.text + o.size)) (d - 1) b₀ b₁ (Refused n q) → BasicRead s b o from d b₀ b₁ (Refused n q)
-        unfolding rest_vector ◌>>=◌ demand if◌then◌else◌
+        unfolding rest_vector ◌>>=◌ demand when◌then◌else◌
         basic_no n q I =
             record {
               is = λ m le. let w = I.is m le in record { is = rw (e, open_left, M.stood.is, M.other "]" refl, w.is); frame = w.frame };
@@ -105,7 +105,7 @@ module _ (s : List ℕ) (b : Basic) (o : Own) (from : Cursor) (d : ℕ) (b₀ : 
         pub basic_items : (b₂ : List ℕ) (to : Cursor) → ItemsRead s (cursor from.at (from.count + 1) (from.text + o.size)) (d - 1) b₀ b₁ (Done to)
             → b₂ ≡ put_row b₁ from.count (own_row o 7 (to.count - from.count) 0)
             → BasicRead s b o from d b₀ b₂ (Done to)
-        unfolding rest_vector ◌>>=◌ demand if◌then◌else◌ own_drafts puts draft several text_size
+        unfolding rest_vector ◌>>=◌ demand when◌then◌else◌ own_drafts puts draft several text_size
         basic_items b₂ to I e₂ =
             record {
               is = λ n le.
@@ -162,7 +162,7 @@ module _ (s : List ℕ) (from : Cursor) (d : ℕ) (b₀ : List ℕ) where
 
       module _ (M : NotMark s mid.at 44) where
         pub items_last : (r : Went) → PassIs s mid 93 r → ItemsRead s from d b₀ b₁ r
-        unfolding draft_basics ◌>>=◌ if◌then◌else◌
+        unfolding draft_basics ◌>>=◌ when◌then◌else◌
         items_last (Refused n p) P =
             record {
               is = fuel_two (ItemsOut b₁ (Refused n p)) _ (omega arith)
@@ -192,7 +192,7 @@ module _ (s : List ℕ) (from : Cursor) (d : ℕ) (b₀ : List ℕ) where
             }
 
       pub items_more : (q g : ℕ) (b₂ : List ℕ) (r : Went) → Shown s mid.at (mark 44) q g → ItemsRead s (cursor g mid.count mid.text) d b₁ b₂ r → ItemsRead s from d b₀ b₂ r
-      unfolding draft_basics ◌>>=◌ if◌then◌else◌ is_mark
+      unfolding draft_basics ◌>>=◌ when◌then◌else◌ is_mark
       items_more q g b₂ r M I =
           record {
             is = fuel_two (λ n. Answers itself s b₀ b₂ from r (draft_basics n d (here s from.at))) _ (omega arith)

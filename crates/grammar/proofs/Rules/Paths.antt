@@ -4,7 +4,7 @@ use native.Mathlib.Omega.{arith}
 use mathlib.Core.Path.{◌≡◌, refl, sym, subst}
 use mathlib.Core.List.{List, [], ◌∷◌}
 use lib.ListN.{length, length-append}
-use Rattle.paper.specs.Bytes.{if◌then◌else◌}
+use Rattle.paper.specs.Bytes.{when◌then◌else◌}
 use Rattle.paper.specs.Answer.{refused, ◌>>=◌, demand}
 use Rattle.paper.specs.Tokens.{mark, is_mark}
 use Rattle.paper.specs.Scanner.{next}
@@ -41,7 +41,7 @@ module _ {s : List ℕ} {at p e : ℕ} (N : NameSeen s at p e) (y : ℕ) where
   too_many = rw (N.shown.is, N.free)
 
   pub last_name : (k : ℕ) → NotMark s e 58 → NamesIs (suc k) s at y (Whole e (y + (e - p + 1)))
-  unfolding names ◌>>=◌ demand if◌then◌else◌ spelling
+  unfolding names ◌>>=◌ demand when◌then◌else◌ spelling
   last_name k M =
       record {
         spelt = N.spelt ∷ [];
@@ -58,7 +58,7 @@ module _ {s : List ℕ} {at p e : ℕ} (N : NameSeen s at p e) (y : ℕ) where
 
   module _ (q g : ℕ) (M : Shown s e (mark 58) q g) where
     pub more_names : (k : ℕ) (r : Read) → NamesIs k s g (y + (e - p + 1)) r → NamesIs (suc k) s at y r
-    unfolding names ◌>>=◌ demand if◌then◌else◌ is_mark spelling
+    unfolding names ◌>>=◌ demand when◌then◌else◌ is_mark spelling
     more_names k (Whole x z) R =
         record {
           spelt = N.spelt ∷ R.spelt;

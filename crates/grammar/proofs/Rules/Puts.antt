@@ -10,7 +10,7 @@ use lib.Dec.{ltb, lit<}
 use lib.ListN.{length, set, drop, length-append}
 use lib.Seq.{sets, length-sets, set_comm, drop-set-lt}
 use borrow.Author.Tests.{ltb-true, lt-ltb, le-ltb}
-use Rattle.paper.specs.Bytes.{if◌then◌else◌}
+use Rattle.paper.specs.Bytes.{when◌then◌else◌}
 use Rattle.paper.specs.Layout.{Row, Field, number, little, row_bytes, figure}
 use Rattle.paper.specs.StepLayout.{step_row}
 use Rattle.theorems.proofs.Decoded.Parts.{length_little}
@@ -65,11 +65,11 @@ twenty i k m p r v = record { long = row_long i k m p r v }
 
 module _ (b : List ℕ) (n : ℕ) (x : Row) where
   pub put_in : n < 1024 → put_row b n x ≡ sets b (20 * n) (row_bytes 0 x)
-  unfolding put_row if◌then◌else◌
+  unfolding put_row when◌then◌else◌
   put_in h = rw (lt-ltb n 1024 h)
 
   pub put_out : 1024 ≤ n → put_row b n x ≡ b
-  unfolding put_row if◌then◌else◌
+  unfolding put_row when◌then◌else◌
   put_out h = rw (le-ltb n 1024 h)
 
 -- by whether the row is kept
@@ -77,9 +77,9 @@ kept : (P : List ℕ → Type 0) (b : List ℕ) (n : ℕ) (x : Row) → (n < 102
 unfolding put_row
 kept P b n x f g = go (ltb n 1024) refl
   where
-    go : (t : Bool) → ltb n 1024 ≡ t → P (if t then sets b (20 * n) (row_bytes 0 x) else b)
-    go true e = unfold if◌then◌else◌ in f (ltb-true n 1024 e)
-    go false e = unfold if◌then◌else◌ in g
+    go : (t : Bool) → ltb n 1024 ≡ t → P (when t then sets b (20 * n) (row_bytes 0 x) else b)
+    go true e = unfold when◌then◌else◌ in f (ltb-true n 1024 e)
+    go false e = unfold when◌then◌else◌ in g
 
 pub put_frame : (b : List ℕ) (n : ℕ) (x : Row) → Twenty x → Frame b (put_row b n x)
 put_frame b n x t =
@@ -104,11 +104,11 @@ put_comm b n m x y t h = go (ltb n 1024) (ltb m 1024)
     Y : List ℕ → List ℕ
     Y l = sets l (20 * m) (row_bytes 0 y)
 
-    go : (t u : Bool) → (if t then X (if u then Y b else b) else (if u then Y b else b)) ≡ (if u then Y (if t then X b else b) else (if t then X b else b))
-    go true true = unfold if◌then◌else◌ in sets_comm b (row_bytes 0 x) (row_bytes 0 y) (20 * n) (20 * m) (omega (arith, t.long))
-    go true false = unfold if◌then◌else◌ in refl
-    go false true = unfold if◌then◌else◌ in refl
-    go false false = unfold if◌then◌else◌ in refl
+    go : (t u : Bool) → (when t then X (when u then Y b else b) else (when u then Y b else b)) ≡ (when u then Y (when t then X b else b) else (when t then X b else b))
+    go true true = unfold when◌then◌else◌ in sets_comm b (row_bytes 0 x) (row_bytes 0 y) (20 * n) (20 * m) (omega (arith, t.long))
+    go true false = unfold when◌then◌else◌ in refl
+    go false true = unfold when◌then◌else◌ in refl
+    go false false = unfold when◌then◌else◌ in refl
 
 -- ---- drafts
 

@@ -4,7 +4,7 @@ use native.Mathlib.Omega.{arith}
 use mathlib.Core.Path.{◌≡◌, refl, ◌∙◌}
 use mathlib.Core.List.{List, [], ◌∷◌, ◌++◌}
 use lib.ListN.{length}
-use Rattle.paper.specs.Bytes.{if◌then◌else◌}
+use Rattle.paper.specs.Bytes.{when◌then◌else◌}
 use Rattle.paper.specs.Answer.{Answer, refused, ◌>>=◌}
 use Rattle.paper.specs.Tokens.{Here}
 use Rattle.paper.specs.Layout.{number}
@@ -155,7 +155,7 @@ module _ (s : List ℕ) (from : Cursor) (d : ℕ) (b₀ : List ℕ) where
   StatementsOut b₁ r n = Answers itself s b₀ b₁ from r (draft_statements n d (here s from.at))
 
   pub statements_end : Fit s from b₀ → NoName s from.at → StatementsRead s from d b₀ b₀ (Done from)
-  unfolding draft_statements ◌>>=◌ if◌then◌else◌ puts text_size
+  unfolding draft_statements ◌>>=◌ when◌then◌else◌ puts text_size
   statements_end F N =
       record {
         is = fuel (StatementsOut b₀ (Done from)) _ (omega arith)
@@ -164,7 +164,7 @@ module _ (s : List ℕ) (from : Cursor) (d : ℕ) (b₀ : List ℕ) where
       }
 
   pub statements_fault : (n p : ℕ) → RefFault s from.at n p → StatementsRead s from d b₀ b₀ (Refused n p)
-  unfolding draft_statements ◌>>=◌ if◌then◌else◌
+  unfolding draft_statements ◌>>=◌ when◌then◌else◌
   statements_fault n p (no_token e) =
       record { is = fuel (StatementsOut b₀ (Refused n p)) _ (omega arith) (λ m le. record { is = rw e; frame = frame_same b₀ }); ahead = tt }
   statements_fault n p (no_path N i e) =
@@ -172,7 +172,7 @@ module _ (s : List ℕ) (from : Cursor) (d : ℕ) (b₀ : List ℕ) where
 
   module _ (p e z : ℕ) (R : RefSeen s from.at p e z) (b₁ : List ℕ) where
     pub statements_no : (n q : ℕ) → ValueRead s (record { place = p; size = z }) (cursor e from.count from.text) d b₀ b₁ (Refused n q) → StatementsRead s from d b₀ b₁ (Refused n q)
-    unfolding draft_statements ◌>>=◌ if◌then◌else◌
+    unfolding draft_statements ◌>>=◌ when◌then◌else◌
     statements_no n q W =
         record {
           is = fuel (StatementsOut b₁ (Refused n q)) _ (omega arith)
@@ -182,7 +182,7 @@ module _ (s : List ℕ) (from : Cursor) (d : ℕ) (b₀ : List ℕ) where
 
     pub statements_more : (mid : Cursor) (b₂ : List ℕ) (r : Went) → ValueRead s (record { place = p; size = z }) (cursor e from.count from.text) d b₀ b₁ (Done mid)
         → StatementsRead s mid d b₁ b₂ r → StatementsRead s from d b₀ b₂ r
-    unfolding draft_statements ◌>>=◌ if◌then◌else◌
+    unfolding draft_statements ◌>>=◌ when◌then◌else◌
     statements_more mid b₂ r W S =
         record {
           is = fuel (StatementsOut b₂ r) _ (omega arith)

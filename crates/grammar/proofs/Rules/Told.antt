@@ -8,7 +8,7 @@ use mathlib.Core.Option.{Option, none, some}
 use lib.Dec.{eqb, lit<}
 use lib.ListN.{length, take, drop, get_or}
 use borrow.Author.Tests.{eqb-true, ne_eqb}
-use Rattle.paper.specs.Bytes.{at, is, if◌then◌else◌}
+use Rattle.paper.specs.Bytes.{at, is, when◌then◌else◌}
 use Rattle.paper.specs.Answer.{ok, refused, ◌>>=◌, demand}
 use Rattle.paper.specs.Syntax.{string}
 use Rattle.paper.specs.Tokens.{Token, name, literal, mark, end, escaped, reserved}
@@ -38,27 +38,27 @@ use Rattle.grammar.proofs.Rules.Marks.{stands}
 
 module _ (i : ℕ) where
   pub word_0 : i ≡ 0 → Extends ≡ word_of i
-  unfolding word_of if◌then◌else◌
+  unfolding word_of when◌then◌else◌
   word_0 e = rw e refl
 
   pub word_1 : i ≡ 1 → Data ≡ word_of i
-  unfolding word_of if◌then◌else◌
+  unfolding word_of when◌then◌else◌
   word_1 e = rw e refl
 
   pub word_2 : i ≡ 2 → Null ≡ word_of i
-  unfolding word_of if◌then◌else◌
+  unfolding word_of when◌then◌else◌
   word_2 e = rw e refl
 
   pub word_3 : i ≡ 3 → True ≡ word_of i
-  unfolding word_of if◌then◌else◌
+  unfolding word_of when◌then◌else◌
   word_3 e = rw e refl
 
   pub word_4 : i ≡ 4 → False ≡ word_of i
-  unfolding word_of if◌then◌else◌
+  unfolding word_of when◌then◌else◌
   word_4 e = rw e refl
 
   pub word_other : (i ≡ 0 → ⊥) → (i ≡ 1 → ⊥) → (i ≡ 2 → ⊥) → (i ≡ 3 → ⊥) → (i ≡ 4 → ⊥) → Other ≡ word_of i
-  unfolding word_of if◌then◌else◌
+  unfolding word_of when◌then◌else◌
   word_other a b c d e = rw (ne_eqb i 0 a, ne_eqb i 1 b, ne_eqb i 2 c, ne_eqb i 3 d, ne_eqb i 4 e) refl
 
 module _ (s : List ℕ) (at p e i : ℕ) (N : Shown s at (name (get_or reserved i [])) p e) (h : i < 14) where

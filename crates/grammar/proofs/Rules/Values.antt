@@ -4,7 +4,7 @@ use native.Mathlib.Omega.{arith}
 use mathlib.Core.Path.{◌≡◌, refl}
 use mathlib.Core.List.{List}
 use lib.ListN.{length}
-use Rattle.paper.specs.Bytes.{bytes, if◌then◌else◌}
+use Rattle.paper.specs.Bytes.{bytes, when◌then◌else◌}
 use Rattle.paper.specs.Answer.{refused, ◌>>=◌, demand}
 use Rattle.paper.specs.Tokens.{name, mark, end, is_name, member, reserved}
 use Rattle.paper.specs.Scanner.{next}
@@ -26,25 +26,25 @@ use Rattle.grammar.proofs.Rules.Basics.{free_word}
 
 module _ (s : List ℕ) (at : ℕ) where
   pub extends_value : (p e : ℕ) → Shown s at (name (bytes "extends")) p e → ValueFound s at Extends e
-  unfolding draft_value rest_value expect_word ◌>>=◌ demand if◌then◌else◌ is_word
+  unfolding draft_value rest_value expect_word ◌>>=◌ demand when◌then◌else◌ is_word
   extends_value p e N = record { is = λ f d q z. rw N.is; ahead = omega (arith, N); within = N.within; light = omega (arith, N) }
 
   pub basic_value : (b : Data) (e : ℕ) → Neither s at → BasicFound s at b e → ValueFound s at (Basic b) e
-  unfolding draft_value rest_value ◌>>=◌ if◌then◌else◌
+  unfolding draft_value rest_value ◌>>=◌ when◌then◌else◌
   basic_value b e N B =
       record { is = λ f d p z. rw (N.stood.is, N.no_extends, N.no_name, B.is f d); ahead = B.ahead; within = B.within; light = B.light }
 
   pub basic_fault : (n q : ℕ) → Neither s at → ((f d : ℕ) → draft_basic (suc f) d (here s at) ≡ refused n q) → (f d p z : ℕ) → draft_value (suc (suc f)) d p z (here s at) ≡ refused n q
-  unfolding draft_value ◌>>=◌ if◌then◌else◌
+  unfolding draft_value ◌>>=◌ when◌then◌else◌
   basic_fault n q N B f d p z = rw (N.stood.is, N.no_extends, N.no_name, B f d)
 
   pub link_value : (q e y : ℕ) → NamedAt s at q → PathSeen s at e y → ValueFound s at (Link q y) e
-  unfolding draft_value rest_value ◌>>=◌ if◌then◌else◌
+  unfolding draft_value rest_value ◌>>=◌ when◌then◌else◌
   link_value q e y N P =
       record { is = λ f d p z. rw (N.stood.is, N.no_extends, N.named, P.is, P.size); ahead = P.ahead; within = P.within; light = omega (arith, P.light, P.ahead) }
 
   pub link_fault : (q n v : ℕ) → NamedAt s at q → path (here s at) ≡ refused n v → (f d p z : ℕ) → draft_value (suc (suc f)) d p z (here s at) ≡ refused n v
-  unfolding draft_value ◌>>=◌ if◌then◌else◌
+  unfolding draft_value ◌>>=◌ when◌then◌else◌
   link_fault q n v N P f d p z = rw (N.stood.is, N.no_extends, N.named, P)
 
   pub value_fault : (n v : ℕ) → next (here s at) ≡ refused n v → (f d p z : ℕ) → draft_value (suc (suc f)) d p z (here s at) ≡ refused n v

@@ -6,7 +6,7 @@ use mathlib.Core.List.{List, ◌++◌}
 use lib.ListN.{length, drop, length-append, length-drop}
 use lib.Seq.{drop-drop, drop_at}
 use borrow.Author.Tests.{le-leb, lt-leb, lt-ltb, le-ltb}
-use Rattle.paper.specs.Bytes.{if◌then◌else◌}
+use Rattle.paper.specs.Bytes.{when◌then◌else◌}
 use Rattle.paper.specs.Answer.{Answer, ok, refused, ◌>>=◌, demand}
 use Rattle.paper.specs.Tokens.{Here}
 use Rattle.paper.specs.Reader.{is_end}
@@ -61,12 +61,12 @@ module _ (s : List ℕ) (short : length s ≤ 32768) (b₀ b₁ : List ℕ) wher
 
 module _ (s b₀ : List ℕ) where
   pub reads_short : length b₀ < 65536 → ◌≡◌ {A = Result} (record { answer = Refused 8 0; work = b₀ }) (reads s b₀)
-  unfolding reads if◌then◌else◌
+  unfolding reads when◌then◌else◌
   reads_short h = rw (lt-ltb (length b₀) 65536 h)
 
   module _ (h : 65536 ≤ length b₀) where
     roomy : reads s b₀ ≡ answered (drafts s) b₀
-    unfolding reads if◌then◌else◌
+    unfolding reads when◌then◌else◌
     roomy = rw (le-ltb (length b₀) 65536 h)
 
     pub reads_long : (b₁ : List ℕ) → 32768 < length s → b₁ ≡ stored b₀ 0 (zeros 65536) → ◌≡◌ {A = Result} (record { answer = Refused 1 0; work = b₁ }) (reads s b₀)

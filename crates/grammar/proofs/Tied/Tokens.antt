@@ -9,7 +9,7 @@ use mathlib.Core.Option.{Option, none, some}
 use lib.ListN.{length, drop, length-drop}
 use lib.Seq.{drop-drop}
 use lib.IntN.{ℤ}
-use Rattle.paper.specs.Bytes.{if◌then◌else◌}
+use Rattle.paper.specs.Bytes.{when◌then◌else◌}
 use Rattle.paper.specs.Answer.{Answer, ok, refused, ◌>>=◌}
 use Rattle.paper.specs.Syntax.{Path, Basic, integer, decimal, string}
 use Rattle.paper.specs.Tokens.{Token, literal, blank, Here}
@@ -46,7 +46,7 @@ stands_past s n h st = record { is = ap (λ (r : List ℕ). record { place = h.p
 -- ---- what is skipped is skipped once
 
 gap_end : gap [] ≡ some 0
-unfolding gap blank if◌then◌else◌
+unfolding gap blank when◌then◌else◌
 gap_end = refl
 
 record Skipped (s : List ℕ) (h : Here) : Type 0 where

@@ -12,7 +12,7 @@ use lib.Seq.{take-append_seam, drop-append_seam, length-take-le}
 use lib.IntN.{ℤ, pos, negsuc}
 use lib.Dec.{ltb}
 use borrow.Author.Tests.{ltb-true, ltb-false, leb-true, eqb-true, lt-ltb, le-ltb, le-leb, eq-eqb, not-true}
-use Rattle.paper.specs.Bytes.{if◌then◌else◌}
+use Rattle.paper.specs.Bytes.{when◌then◌else◌}
 use Rattle.paper.specs.Maybe.{◌>>=◌, require}
 use Rattle.paper.specs.Syntax.{Path, boolean, null, integer, decimal, string, reference, vector}
 use Rattle.paper.specs.Tokens.{name, literal, mark, end, in_range}
@@ -219,7 +219,7 @@ unfolding signed complement
 signed_complement x h = if_case (λ z. complement z ≡ x) _ _ _ (λ e. refl) (λ e. let l = ltb-false x (2 ^ 63) e in omega arith)
 
 pub complement_signed : (z : ℤ) → in_range z ≡ true → signed (complement z) ≡ z
-unfolding signed complement in_range if◌then◌else◌
+unfolding signed complement in_range when◌then◌else◌
 complement_signed (pos n) h = rw h
 complement_signed (negsuc n) h =
     let l = ltb-true n (2 ^ 63) h in

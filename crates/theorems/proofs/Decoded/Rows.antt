@@ -9,7 +9,7 @@ use mathlib.Core.Option.{Option, some}
 use lib.ListN.{length, length-append}
 use lib.Dec.{T, eqb}
 use borrow.Author.Tests.{leb-true, eqb-true, eqb-false, le-leb, eq-eqb, ne_eqb}
-use Rattle.paper.specs.Bytes.{if◌then◌else◌}
+use Rattle.paper.specs.Bytes.{when◌then◌else◌}
 use Rattle.paper.specs.Maybe.{◌>>=◌, require}
 use Rattle.paper.specs.Syntax.{Basic, boolean, null, integer, decimal, string, reference, vector, Basics, εⱽ, ◌∷ⱽ◌}
 use Rattle.paper.specs.Layout.{Field, Row, kind, content, elements, each, text_of, figure, row_text, row_bytes, texts, records}
@@ -224,7 +224,7 @@ figure_below (reference r) p h l = omega arith
 figure_below (vector bs) p h l = omega arith
 
 leaf_complete : (b : Basic) {at after : Cursor} → kind b < 7 → IsBasic b → Took (text_of (content b)) at after → leaf (kind b) (figure at.pos (content b)) at ≡ some (b, after)
-unfolding leaf kind content figure text_of if◌then◌else◌ ◌>>=◌ require
+unfolding leaf kind content figure text_of when◌then◌else◌ ◌>>=◌ require
 leaf_complete (boolean true) f h t = ap (λ c. some (boolean true, c)) (stays t)
 leaf_complete (boolean false) f h t = ap (λ c. some (boolean false, c)) (stays t)
 leaf_complete null f h t = ap (λ c. some (null, c)) (stays t)
@@ -372,7 +372,7 @@ module _ (form : Form) (row : ℕ → ℕ → ℕ → Field → Row) (law : Lawf
 
   flat_complete : (f d m : ℕ) (b : Basic) {at after : Cursor} → kind b < 7 → m ≡ 1 → IsBasic b → Took (text_of (content b)) at after
       → basic_at (suc f) form d (kind b) m (figure at.pos (content b)) at ≡ some (b, after)
-  unfolding basic_at if◌then◌else◌ ◌>>=◌ require
+  unfolding basic_at when◌then◌else◌ ◌>>=◌ require
   flat_complete f d m b {at} {after} l q h t = rw (ne_eqb (kind b) 7 (λ z. omega arith), q) (leaf_complete b l h t)
 
   -- the parts of a basic's own row with those below
@@ -402,7 +402,7 @@ module _ (form : Form) (row : ℕ → ℕ → ℕ → Field → Row) (law : Lawf
       }
 
   mutual
-    unfolding basic_at kind content figure text_of elements if◌then◌else◌ ◌>>=◌ require
+    unfolding basic_at kind content figure text_of elements when◌then◌else◌ ◌>>=◌ require
 
     pub basic_complete : (b : Basic) (f d : ℕ) {at mid after : Cursor} → Took (text_of (content b)) at mid → Front (elements row d b) mid after → after.pos < 65536
         → length (elements row d b) < 65535 → IsBasic b → Within form.top d b → 2 * length (elements row d b) + 2 ≤ f

@@ -10,7 +10,7 @@ use mathlib.Core.Logic.{◌↔◌}
 use lib.ListN.{length, length-append}
 use lib.Dec.{eqb}
 use borrow.Author.Tests.{ltb-true, leb-true, eqb-true, lt-ltb, le-leb, eq-eqb, ne_eqb}
-use Rattle.paper.specs.Bytes.{if◌then◌else◌}
+use Rattle.paper.specs.Bytes.{when◌then◌else◌}
 use Rattle.paper.specs.Maybe.{◌>>=◌, require}
 use Rattle.paper.specs.Syntax.{Path, Basic, boolean, null, integer, decimal, string, reference, vector, Basics, εⱽ, ◌∷ⱽ◌, Block, εᴮ, ◌∷ᴮ◌, assign, Value, basic, link, extends, Prototypes, εᴾ, named, block}
 use Rattle.paper.specs.Grammar.{brackets, brackets_in, openings, openings_v, openings_p, Some}
@@ -421,7 +421,7 @@ record Opened (f d : ℕ) (v : Value) (l : Path) (at after : Cursor) : Type 0 wh
 
 set_complete : (f d p : ℕ) (l : Path) (b : Basic) {at after : Cursor} → Front (all_rows (value_steps (basic p b) l)) at after → after.pos < 65536 → length (all_rows (value_steps (basic p b) l)) < 65536
     → IsValueOf (basic p b) → d + brackets b ≤ 32 → 2 * length (all_rows (value_steps (basic p b) l)) + 1 ≤ suc f → Opened (suc f) d (basic p b) l at after
-unfolding steps value_at if◌then◌else◌ ◌>>=◌ require figure text_of in_steps
+unfolding steps value_at when◌then◌else◌ ◌>>=◌ require figure text_of in_steps
 set_complete f d p l b {at} {after} fr low n h w le =
     let below = elements item d b in
     let m = suc (length below) in
@@ -442,7 +442,7 @@ set_complete f d p l b {at} {after} fr low n h w le =
     }
 
 link_complete : (f d p : ℕ) (l k : Path) {at after : Cursor} → Front (all_rows (value_steps (link p k) l)) at after → after.pos < 65536 → IsValueOf (link p k) → Opened (suc f) d (link p k) l at after
-unfolding steps all_rows step_rows value_at if◌then◌else◌ ◌>>=◌ figure text_of
+unfolding steps all_rows step_rows value_at when◌then◌else◌ ◌>>=◌ figure text_of
 link_complete f d p l k {at} {after} fr low h =
     let s = step_parts 8 0 (text (path_text l)) 0 (text (path_text k)) p [] fr low (omega arith) (omega arith) (omega arith) (omega (arith, h.0)) (λ q l. l) (λ q l. omega arith) in
     let x = make_raw 8 0 at.pos 0 s.at₂.pos p in
@@ -467,7 +467,7 @@ some_complete (block b ps) h = refl
 
 extends_complete : (f d p : ℕ) (l : Path) (ps : Prototypes) {at after : Cursor} → Front (all_rows (value_steps (extends p ps) l)) at after → after.pos < 65536 → IsValueOf (extends p ps)
     → ((at : Cursor) → Front (all_rows (prototype_steps ps ++ (done ∷ []))) at after → prototypes_at f d at ≡ some (ps, after)) → Opened (suc f) d (extends p ps) l at after
-unfolding steps all_rows step_rows value_at if◌then◌else◌ ◌>>=◌ figure text_of require
+unfolding steps all_rows step_rows value_at when◌then◌else◌ ◌>>=◌ figure text_of require
 extends_complete f d p l ps {at} {after} fr low h again =
     let xs = all_rows (prototype_steps ps ++ (done ∷ [])) in
     let s = step_parts 1 0 (text (path_text l)) 0 (number 0) p xs fr low (omega arith) (omega arith) (omega arith) (omega (arith, h.0)) (λ q l. l) (λ q l. omega arith) in
@@ -487,13 +487,13 @@ extends_complete f d p l ps {at} {after} fr low h again =
 
 statement_complete : (f d : ℕ) (v : Value) (l : Path) (b : Block) {at mid after : Cursor} → IsPath l → Opened f d v l at mid → statements_at f d mid ≡ some (b, after)
     → statements_at (suc f) d at ≡ some (assign l v ∷ᴮ b, after)
-unfolding statements_at if◌then◌else◌ ◌>>=◌ require
+unfolding statements_at when◌then◌else◌ ◌>>=◌ require
 statement_complete f d v l b h o e =
     rw (going o.own o.no_leave, record_complete o.own, lt-ltb o.x.place 32768 o.placed, field_complete exact_path l o.x.label h o.label o.labelled, o.value, e)
 
 named_complete : (f d p : ℕ) (l : Path) (ps : Prototypes) {at after : Cursor} → Front (all_rows (prototype_steps (named p l ps) ++ (done ∷ []))) at after → after.pos < 65536 → IsPlace p → IsPath l
     → ((at : Cursor) → Front (all_rows (prototype_steps ps ++ (done ∷ []))) at after → prototypes_at f d at ≡ some (ps, after)) → prototypes_at (suc f) d at ≡ some (named p l ps, after)
-unfolding steps all_rows step_rows statements_at if◌then◌else◌ ◌>>=◌ figure text_of require
+unfolding steps all_rows step_rows statements_at when◌then◌else◌ ◌>>=◌ figure text_of require
 named_complete f d p l ps {at} {after} fr low hp hl again =
     let xs = all_rows (prototype_steps ps ++ (done ∷ [])) in
     let s = step_parts 2 0 (text (path_text l)) 0 (number 0) p xs fr low (omega arith) (omega arith) (omega arith) (omega arith) (λ q l. l) (λ q l. omega arith) in
@@ -502,7 +502,7 @@ named_complete f d p l ps {at} {after} fr low hp hl again =
     rw (record_complete s.own, plain_complete 2 0 x refl refl refl hp, field_complete exact_path l at.pos hl s.label (sym s.own.pos), again s.at₂ fr')
 
 done_complete : (f d : ℕ) {at after : Cursor} → Front (all_rows (prototype_steps εᴾ ++ (done ∷ []))) at after → after.pos < 65536 → prototypes_at (suc f) d at ≡ some (εᴾ, after)
-unfolding steps all_rows step_rows statements_at if◌then◌else◌ ◌>>=◌
+unfolding steps all_rows step_rows statements_at when◌then◌else◌ ◌>>=◌
 done_complete f d {at} {after} fr low =
     let s = bare_parts 5 [] fr low (omega arith) in
     rw (record_complete s.own, bare_complete 5) (ap (λ c. some (εᴾ, c)) (front_stays s.rest))
@@ -510,7 +510,7 @@ done_complete f d {at} {after} fr low =
 block_complete : (f d : ℕ) (b : Block) (ps : Prototypes) {at after : Cursor} → Front (all_rows (prototype_steps (block b ps) ++ (done ∷ []))) at after → after.pos < 65536 → d < 32
     → ((at mid : Cursor) → Front (all_rows (steps b)) at mid → mid.pos < 65536 → stops mid ≡ true → statements_at f (suc d) at ≡ some (b, mid))
     → ((at : Cursor) → Front (all_rows (prototype_steps ps ++ (done ∷ []))) at after → prototypes_at f d at ≡ some (ps, after)) → prototypes_at (suc f) d at ≡ some (block b ps, after)
-unfolding statements_at if◌then◌else◌ ◌>>=◌ require
+unfolding statements_at when◌then◌else◌ ◌>>=◌ require
 block_complete f d b ps {at} {after} fr low ld inside again =
     let xs = all_rows (prototype_steps ps ++ (done ∷ [])) in
     let s = bare_parts 3 (all_rows (steps b) ++ (bare_row 4 ∷ xs)) (subst (λ ys. Front ys at after) (block_rows b ps) fr) low (omega arith) in
@@ -521,7 +521,7 @@ block_complete f d b ps {at} {after} fr low ld inside again =
 -- ---- how many rows
 
 empty_back : (f d : ℕ) {at after : Cursor} → Front (all_rows (steps εᴮ)) at after → stops after ≡ true → statements_at (suc f) d at ≡ some (εᴮ, after)
-unfolding statements_at steps all_rows if◌then◌else◌
+unfolding statements_at steps all_rows when◌then◌else◌
 empty_back f d {at} {after} fr st =
     let e : at ≡ after = front_stays fr in
     subst (λ c. statements_at (suc f) d c ≡ some (εᴮ, after)) (sym e) (rw st)

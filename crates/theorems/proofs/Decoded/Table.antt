@@ -10,7 +10,7 @@ use mathlib.Core.Logic.{◌↔◌}
 use lib.ListN.{length, length-append}
 use lib.Dec.{eqb}
 use borrow.Author.Tests.{leb-true, eqb-true, le-leb, eq-eqb, ne_eqb}
-use Rattle.paper.specs.Bytes.{if◌then◌else◌}
+use Rattle.paper.specs.Bytes.{when◌then◌else◌}
 use Rattle.paper.specs.Maybe.{◌>>=◌, require}
 use Rattle.paper.specs.Syntax.{Name, Basic, boolean, null, integer, decimal, string, reference, vector, Basics, εⱽ, ◌∷ⱽ◌}
 use Rattle.paper.specs.Store.{Store, ∅, entry, Value, basic, component, lookup}
@@ -269,7 +269,7 @@ table_sound b =
 -- what `entries_at` does for an entry's value
 abbrev value_reader : ℕ → ℕ → Raw → Cursor → Option (Value × Cursor)
 value_reader f d x at =
-    if eqb x.first 0
+    when eqb x.first 0
     then (do
       _ ← require (eqb x.value 0)
       (c, at) ← entries_at f (suc d) (x.span - 1) at
@@ -347,7 +347,7 @@ Back f d c = (at after : Cursor) → Front (rows d c) at after → after.pos < 6
 value_complete : (v : Value) (f d place : ℕ) {at mid after : Cursor} → Took (text_of (value_content v)) at mid → Front (value_below d v) mid after → after.pos < 65536 → length (value_below d v) < 65535
     → NamedIn v → d ≤ 32 → deepest (value_below d v) ≤ 32 → 2 * length (value_below d v) + 2 ≤ f → ((c : Store) → Back f (suc d) c)
     → value_reader f d (make_raw (value_kind v) d place (suc (length (value_below d v))) (figure at.pos (value_content v)) 0) at ≡ some (v, after)
-unfolding if◌then◌else◌ ◌>>=◌ require figure text_of in_table
+unfolding when◌then◌else◌ ◌>>=◌ require figure text_of in_table
 value_complete (basic b) f d place t fr l n h ld w le again =
     rw (ne_eqb (kind b) 0 (kind_some b), basic_complete in_table bare_row table_lawful b f d t fr l n h (deep_within b d ld w) le)
 value_complete (component c) f d place {at} {mid} {after} t fr l n h ld w le again =
@@ -357,7 +357,7 @@ value_complete (component c) f d place {at} {mid} {after} t fr l n h ld w le aga
     rw (q, again c at after fr' l (omega arith) h w (omega arith))
 
 pub entries_complete : (f d : ℕ) (s : Store) → Back f d s
-unfolding rows entries_at if◌then◌else◌ ◌>>=◌ require deepest table_row
+unfolding rows entries_at when◌then◌else◌ ◌>>=◌ require deepest table_row
 entries_complete zero d s at after fr l n h w le = absurd (omega arith)
 entries_complete (suc f) d ∅ at after fr l n h w le = ap (λ c. some (∅, c)) (front_stays fr)
 entries_complete (suc f) d (entry k v s) at after fr l n h w le =

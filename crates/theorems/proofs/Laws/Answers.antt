@@ -2,7 +2,7 @@
 use Prim.Native.Nat.{ℕ, ◌≤◌}
 use mathlib.Core.Path.{◌≡◌, refl}
 use mathlib.Core.Bool.{Bool, true, false}
-use Rattle.paper.specs.Bytes.{if◌then◌else◌}
+use Rattle.paper.specs.Bytes.{when◌then◌else◌}
 use Rattle.paper.specs.Answer.{Answer, ok, refused, ◌>>=◌, demand}
 
 pub assoc : {A B C : Type 0} (m : Answer A) (f : A → Answer B) (g : B → Answer C) → (m >>= f) >>= g ≡ m >>= (λ a. f a >>= g)
@@ -16,8 +16,8 @@ under (ok a) h = h a
 under (refused n p) h = refl
 
 -- by the two values of a test
-pub if_case : {A : Type 0} (P : A → Type 0) (c : Bool) (a b : A) → (c ≡ true → P a) → (c ≡ false → P b) → P (if c then a else b)
-unfolding if◌then◌else◌
+pub if_case : {A : Type 0} (P : A → Type 0) (c : Bool) (a b : A) → (c ≡ true → P a) → (c ≡ false → P b) → P (when c then a else b)
+unfolding when◌then◌else◌
 if_case P true a b f g = f refl
 if_case P false a b f g = g refl
 

@@ -10,7 +10,7 @@ use mathlib.Core.Option.{Option, none, some}
 use lib.ListN.{length, length-append}
 use lib.Dec.{leb, ltb, eqb}
 use borrow.Author.Tests.{ltb-true, ltb-false}
-use Rattle.paper.specs.Bytes.{if◌then◌else◌}
+use Rattle.paper.specs.Bytes.{when◌then◌else◌}
 use Rattle.paper.specs.Maybe.{◌>>=◌, require}
 use Rattle.paper.specs.Syntax.{Basic, vector, Basics, εⱽ, ◌∷ⱽ◌, Block, εᴮ, ◌∷ᴮ◌, assign, Value, basic, link, extends, Prototypes, εᴾ, named, block}
 use Rattle.paper.specs.Store.{Store, ∅, entry}
@@ -35,8 +35,8 @@ unfolding ◌>>=◌
 under none h = refl
 under (some x) h = h x
 
-if_under : {A : Type 0} (c : Bool) {a b a' b' : A} → a ≡ a' → b ≡ b' → (if c then a else b) ≡ (if c then a' else b')
-unfolding if◌then◌else◌
+if_under : {A : Type 0} (c : Bool) {a b a' b' : A} → a ≡ a' → b ≡ b' → (when c then a else b) ≡ (when c then a' else b')
+unfolding when◌then◌else◌
 if_under true p q = p
 if_under false p q = q
 
@@ -120,7 +120,7 @@ mutual
 
 unfoldable pub basic_body : Form → (ℕ → ℕ → Cursor → Option (Basics × Cursor)) → ℕ → ℕ → ℕ → ℕ → Cursor → Option (Basic × Cursor)
 basic_body form E d k m v at =
-    if eqb k 7
+    when eqb k 7
     then (do
       _ ← require (eqb v 0)
       _ ← require (leb d form.top)
@@ -287,7 +287,7 @@ table_of_is b = refl
 
 unfoldable pub statement_body : (ℕ → Raw → Cursor → Option (Value × Cursor)) → (ℕ → Cursor → Option (Block × Cursor)) → ℕ → Cursor → Option (Block × Cursor)
 statement_body W S d at =
-    if stops at then some (εᴮ, at) else (do
+    when stops at then some (εᴮ, at) else (do
       (x, at) ← record_at 4 at
       _ ← require (ltb x.place 32768)
       (r, at) ← field path_of x.label at
@@ -297,11 +297,11 @@ statement_body W S d at =
 
 unfoldable pub value_body : (ℕ → ℕ → ℕ → ℕ → Cursor → Option (Basic × Cursor)) → (ℕ → Cursor → Option (Prototypes × Cursor)) → ℕ → Raw → Cursor → Option (Value × Cursor)
 value_body B P d x at =
-    if eqb x.first 6 then (do
+    when eqb x.first 6 then (do
       _ ← require (leb 1 x.span)
       (b, at) ← B d x.second x.span x.value at
       some (basic x.place b, at)) else
-    if eqb x.first 8 then (do
+    when eqb x.first 8 then (do
       _ ← plain 8 x
       (l, at) ← field path_of x.value at
       some (link x.place l, at)) else (do
@@ -314,13 +314,13 @@ value_body B P d x at =
 unfoldable pub prototype_body : (ℕ → Cursor → Option (Block × Cursor)) → (ℕ → Cursor → Option (Prototypes × Cursor)) → ℕ → Cursor → Option (Prototypes × Cursor)
 prototype_body S P d at = do
   (x, at) ← record_at 4 at
-  if eqb x.first 2 then (do
+  when eqb x.first 2 then (do
     _ ← plain 2 x
     _ ← require (eqb x.value 0)
     (l, at) ← field path_of x.label at
     (ps, at) ← P d at
     some (named x.place l ps, at)) else
-      if eqb x.first 3 then (do
+      when eqb x.first 3 then (do
         _ ← bare 3 x
         _ ← require (ltb d 32)
         (b, at) ← S (suc d) at

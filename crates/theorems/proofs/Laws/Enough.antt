@@ -11,7 +11,7 @@ use mathlib.Core.Option.{Option, none, some}
 use lib.ListN.{length, drop, length-drop}
 use lib.Dec.{eqb}
 use borrow.Author.Tests.{ltb-true}
-use Rattle.paper.specs.Bytes.{if◌then◌else◌, at}
+use Rattle.paper.specs.Bytes.{when◌then◌else◌, at}
 use Rattle.paper.specs.Answer.{Answer, refused}
 use Rattle.paper.specs.Syntax.{Basic}
 use Rattle.paper.specs.Tokens.{Token, name, literal, mark, end, starts, goes_on, Here, is_name, is_mark}
@@ -63,7 +63,7 @@ module _ (s : List ℕ) (l : 1 ≤ length s) where
   named_good n h = if_case (ScanGood s) _ _ _ (λ e. some_bytes h l) (λ e. faulty 1≤)
 
 scan_end : scan [] ≡ token end 0
-unfolding scan if◌then◌else◌
+unfolding scan when◌then◌else◌
 scan_end = refl
 
 pub scan_good : (s : List ℕ) → ScanGood s (scan s)

@@ -10,7 +10,7 @@ use lib.Seq.{take-take, get_or-take, take-nil, length-take-le, take-length}
 use lib.IntN.{ℤ}
 use lib.Dec.{ltb, eqb, lit≤}
 use borrow.Author.Tests.{ltb-true, ltb-false, leb-true, eqb-false, le-leb}
-use Rattle.paper.specs.Bytes.{if◌then◌else◌, is, among, at}
+use Rattle.paper.specs.Bytes.{when◌then◌else◌, is, among, at}
 use Rattle.paper.specs.Syntax.{integer, decimal, string}
 use Rattle.paper.specs.Tokens.{name, literal, mark, end, in_range, starts, goes_on, digit}
 use Rattle.paper.specs.Scanner.{Scanned, token, fault, scan, number, named, text, digits_after, sign, whole, fraction, exponent, span, empty}
@@ -180,15 +180,15 @@ unfolding whole
 whole_take k s l h = rw (at_take k 0 s l) (digits_take _ k s h)
 
 fraction_nil : fraction [] ≡ 0
-unfolding fraction if◌then◌else◌
+unfolding fraction when◌then◌else◌
 fraction_nil = refl
 
 exponent_nil : exponent [] ≡ 0
-unfolding exponent if◌then◌else◌
+unfolding exponent when◌then◌else◌
 exponent_nil = refl
 
 fraction_take : (k : ℕ) (s : List ℕ) → fraction s ≤ k → fraction (take k s) ≡ fraction s
-unfolding fraction if◌then◌else◌
+unfolding fraction when◌then◌else◌
 fraction_take zero s h = fraction_nil ∙ (omega arith)
 fraction_take (suc k) s h = go (is "." (at s 0)) refl
   where
@@ -197,7 +197,7 @@ fraction_take (suc k) s h = go (is "." (at s 0)) refl
     go false e = rw (at_take (suc k) 0 s (omega arith), e, fraction)
 
 exponent_take : (k : ℕ) (s : List ℕ) → exponent s ≡ k → exponent (take k s) ≡ k
-unfolding exponent if◌then◌else◌
+unfolding exponent when◌then◌else◌
 exponent_take zero s h = exponent_nil
 exponent_take (suc k) s h = go (among "eE" (at s 0)) refl
   where
@@ -228,7 +228,7 @@ span_starts (b ∷ s) e x = rw (e, span) (omega arith)
 
 -- a name's text alone is that name
 pub name_again : (s : List ℕ) (n : ℕ) → NameHere s n → scan (take n s) ≡ token (name (take n s)) (length (take n s))
-unfolding scan named if◌then◌else◌
+unfolding scan named when◌then◌else◌
 name_again s n h =
     let z = span_le goes_on s in
     let a : n ≡ span goes_on s = h.all in
@@ -267,7 +267,7 @@ out_of_class = (refl, refl)
 
 -- a decimal's text alone is that decimal
 pub decimal_again : (s : List ℕ) (m : ℕ) → DecimalHere s m → scan (take m s) ≡ token (literal (decimal (take m s))) (length (take m s))
-unfolding scan number if◌then◌else◌
+unfolding scan number when◌then◌else◌
 decimal_again s m h =
     let n = whole s in
     let F = fraction (drop n s) in

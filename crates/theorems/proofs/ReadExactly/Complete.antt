@@ -10,7 +10,7 @@ use mathlib.Core.List.{List, [], ◌∷◌}
 use mathlib.Core.Option.{Option, none, some}
 use lib.ListN.{length}
 use borrow.Author.Tests.{eq-eqb, lt-ltb, le-leb}
-use Rattle.paper.specs.Bytes.{if◌then◌else◌, bytes, same}
+use Rattle.paper.specs.Bytes.{when◌then◌else◌, bytes, same}
 use Rattle.paper.specs.Answer.{Answer, ok, refused, ◌>>=◌, demand}
 use Rattle.paper.specs.Syntax.{Path, Basic, boolean, null, integer, decimal, string, reference, vector, Basics, εⱽ, ◌∷ⱽ◌, Block, εᴮ, ◌∷ᴮ◌, assign, Value, basic, link, extends, Prototypes, εᴾ, named, block}
 use Rattle.paper.specs.Tokens.{Token, name, mark, end, reserved, member, Here, is_name, is_mark}
@@ -43,12 +43,12 @@ demanded : {Y : Type 0} {y : Y} {c : Bool} (n p : ℕ) (f : Unit {0} → Answer 
 unfolding ◌>>=◌ demand
 demanded n p f e h = rw e h
 
-if_true : {Y : Type 0} {y : Y} {c : Bool} {a : Answer Y} (b : Answer Y) → c ≡ true → Gets y a → Gets y (if c then a else b)
-unfolding if◌then◌else◌
+if_true : {Y : Type 0} {y : Y} {c : Bool} {a : Answer Y} (b : Answer Y) → c ≡ true → Gets y a → Gets y (when c then a else b)
+unfolding when◌then◌else◌
 if_true b e h = rw e h
 
-if_false : {Y : Type 0} {y : Y} {c : Bool} {b : Answer Y} (a : Answer Y) → c ≡ false → Gets y b → Gets y (if c then a else b)
-unfolding if◌then◌else◌
+if_false : {Y : Type 0} {y : Y} {c : Bool} {b : Answer Y} (a : Answer Y) → c ≡ false → Gets y b → Gets y (when c then a else b)
+unfolding when◌then◌else◌
 if_false a e h = rw e h
 
 -- ---- tests
@@ -239,7 +239,7 @@ named_gets f d p n ps {at} {out} l again r =
   where
     go : (mid : Here) → Reads at (spell_path (some p) n) mid → (q : ℕ) → p ≡ q → (ps : Prototypes) → Goes (sign ";" ∷ []) mid out ps
         → ((at : Here) → Some ps → Reads at (spell_prototypes ps) out → Gets (ps, out) (prototypes f d at))
-        → Gets {X = Prototypes × Here} (named p n ps, out) (path at >>= λ (r, at). next at >>= λ (u, _, _). if is_mark "," u then (expect "," at >>= λ at. prototypes f d at >>= λ (ps, at). ok (named q r ps, at)) else (expect ";" at >>= λ at. ok (named q r εᴾ, at)))
+        → Gets {X = Prototypes × Here} (named p n ps, out) (path at >>= λ (r, at). next at >>= λ (u, _, _). when is_mark "," u then (expect "," at >>= λ at. prototypes f d at >>= λ (ps, at). ok (named q r ps, at)) else (expect ";" at >>= λ at. ok (named q r εᴾ, at)))
     go mid first q e ps (last_one r) again =
         let v = final r in
         gets_bind _ (path_gets n (some p) l first (ahead r refl))
@@ -262,7 +262,7 @@ block_gets f d b ps {at} {out} few inner again a r =
     (go c.after ps (goes [] ps c.second) again))))))
   where
     go : (mid : Here) (ps : Prototypes) → Goes [] mid out ps → ((at : Here) → Some ps → Reads at (spell_prototypes ps) out → Gets (ps, out) (prototypes f d at))
-        → Gets {X = Prototypes × Here} (block b ps, out) (next mid >>= λ (u, _, _). if is_mark "," u then (expect "," mid >>= λ at. prototypes f d at >>= λ (ps, at). ok (block b ps, at)) else ok (block b εᴾ, mid))
+        → Gets {X = Prototypes × Here} (block b ps, out) (next mid >>= λ (u, _, _). when is_mark "," u then (expect "," mid >>= λ at. prototypes f d at >>= λ (ps, at). ok (block b ps, at)) else ok (block b εᴾ, mid))
     go mid ps (last_one r) again =
         let e = nothing r in
         let v : Ahead (No ",") mid = subst (Ahead (No ",")) (sym e) a in

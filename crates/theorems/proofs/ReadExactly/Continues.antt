@@ -8,7 +8,7 @@ use mathlib.Core.Bool.{Bool, true, false, true≢false}
 use mathlib.Core.List.{List, [], ◌∷◌, ◌++◌, append_assoc}
 use mathlib.Core.Option.{Option, none, some}
 use lib.ListN.{length}
-use Rattle.paper.specs.Bytes.{if◌then◌else◌}
+use Rattle.paper.specs.Bytes.{when◌then◌else◌}
 use Rattle.paper.specs.Answer.{Answer, ok, refused, ◌>>=◌}
 use Rattle.paper.specs.Syntax.{Path, Basic, boolean, null, integer, decimal, string, reference, vector, Basics, εⱽ, ◌∷ⱽ◌, Block, εᴮ, ◌∷ᴮ◌, assign, Value, basic, link, extends, Prototypes, εᴾ, named, block}
 use Rattle.paper.specs.Tokens.{Token, end, reserved, member, Here, is_name, is_mark}
@@ -92,12 +92,12 @@ via : {X Y : Type 0} {p : ℕ} {Q : Y → Type 0} {x : X} {m : Answer X} (f : X 
 unfolding ◌>>=◌
 via f e h = rw e h
 
-if_true : {Y : Type 0} {p : ℕ} {Q : Y → Type 0} {c : Bool} {a : Answer Y} (b : Answer Y) → c ≡ true → Past p Q a → Past p Q (if c then a else b)
-unfolding if◌then◌else◌
+if_true : {Y : Type 0} {p : ℕ} {Q : Y → Type 0} {c : Bool} {a : Answer Y} (b : Answer Y) → c ≡ true → Past p Q a → Past p Q (when c then a else b)
+unfolding when◌then◌else◌
 if_true b e h = rw e h
 
-if_false : {Y : Type 0} {p : ℕ} {Q : Y → Type 0} {c : Bool} {b : Answer Y} (a : Answer Y) → c ≡ false → Past p Q b → Past p Q (if c then a else b)
-unfolding if◌then◌else◌
+if_false : {Y : Type 0} {p : ℕ} {Q : Y → Type 0} {c : Bool} {b : Answer Y} (a : Answer Y) → c ≡ false → Past p Q b → Past p Q (when c then a else b)
+unfolding when◌then◌else◌
 if_false a e h = rw e h
 
 clash : {c : Bool} → c ≡ true → c ≡ false → ⊥
@@ -275,7 +275,7 @@ named_fine {p} f d q n ps {at} {ys} l again m =
     (λ k. lost (prototypes_late p (suc f) d at k))
   where
     go : (i : ℕ) (r : Path × Here) (ps : Prototypes) → Goes p (sign ";" ∷ []) ys r.1 ps → ((at : Here) → Some ps → Meets p at (spell_prototypes ps ++ ys) → Past p (Then p ys) (prototypes f d at))
-        → Past p (Then p ys) (next r.1 >>= λ (u, _, _). if is_mark "," u then (expect "," r.1 >>= λ at. prototypes f d at >>= λ (ps, at). ok (named i r.0 ps, at)) else (expect ";" r.1 >>= λ at. ok (named i r.0 εᴾ, at)))
+        → Past p (Then p ys) (next r.1 >>= λ (u, _, _). when is_mark "," u then (expect "," r.1 >>= λ at. prototypes f d at >>= λ (ps, at). ok (named i r.0 ps, at)) else (expect ";" r.1 >>= λ at. ok (named i r.0 εᴾ, at)))
     go i r ps (last_one g) again =
         past_bind _ (peek g) (λ y s.
         if_case (Past p (Then p ys)) _ _ _
@@ -303,7 +303,7 @@ block_fine {p} f d b ps {at} {ys} inner again st m =
     (λ k. lost (prototypes_late p (suc f) d at k))
   where
     go : (c : Block × Here) (j : Here) (ps : Prototypes) → Goes p [] ys j ps → ((at : Here) → Some ps → Meets p at (spell_prototypes ps ++ ys) → Past p (Then p ys) (prototypes f d at))
-        → Past p (Then p ys) (next j >>= λ (u, _, _). if is_mark "," u then (expect "," j >>= λ at. prototypes f d at >>= λ (ps, at). ok (block c.0 ps, at)) else ok (block c.0 εᴾ, j))
+        → Past p (Then p ys) (next j >>= λ (u, _, _). when is_mark "," u then (expect "," j >>= λ at. prototypes f d at >>= λ (ps, at). ok (block c.0 ps, at)) else ok (block c.0 εᴾ, j))
     go c j ps (last_one g) again =
         past_bind _ (look (No ",") ys st g) (λ y t.
         if_case (Past p (Then p ys)) _ _ _

@@ -7,7 +7,7 @@ use mathlib.Core.List.{List, [], ◌∷◌, ◌++◌, append_assoc}
 use lib.ListN.{length, drop, length-append}
 use lib.Seq.{drop-append_seam, drop-append-add}
 use borrow.Author.Tests.{eqb-true}
-use Rattle.paper.specs.Bytes.{if◌then◌else◌, at, is, among}
+use Rattle.paper.specs.Bytes.{when◌then◌else◌, at, is, among}
 use Rattle.paper.specs.Tokens.{digit}
 use Rattle.paper.specs.Scanner.{Scanned, number, digits_after, sign, whole, fraction, exponent}
 use Rattle.paper.specs.Written.{no_more, one_more, Digits, digits, Whole, Fraction, Exponent}
@@ -50,13 +50,13 @@ unfolding digit
 no_minus b e = or_left (is "-" b) _ (outside_among digit "-" b refl e)
 
 pub whole_run : {w r : List ℕ} → Whole w → Stops digit r → whole (w ++ r) ≡ length w
-unfolding whole sign if◌then◌else◌
+unfolding whole sign when◌then◌else◌
 whole_run {r = r} (Form.plain (digits {b} {s} (one_more e a))) q = rw (no_minus b e) (digits_run [] (b ∷ s) r (digits (one_more e a)) q)
 whole_run {r = r} (Form.minus {w} d) q = digits_run (45 ∷ []) w r d q
 
 -- the `run` lemmas measure what is written; the `find` lemmas write what is measured
 pub find_whole : (b : ℕ) (s : List ℕ) → (digit b || is "-" b) ≡ true → Part Perhaps whole (b ∷ s)
-unfolding whole sign if◌then◌else◌
+unfolding whole sign when◌then◌else◌
 find_whole b s e = go (digit b) refl
   where
     first : {s : List ℕ} → digit b ≡ true → Run digit s → Part Perhaps whole (b ∷ s)
@@ -67,12 +67,12 @@ find_whole b s e = go (digit b) refl
     go false i = subst (λ x. Part Perhaps whole (x ∷ s)) (eqb-true 45 b (rw i at e)) (part_digits Perhaps whole (45 ∷ []) s refl absent (λ w d. present (Form.minus d)))
 
 pub fraction_run : {x r : List ℕ} → Fraction x → Stops digit r → is "." (at r 0) ≡ false → fraction (x ++ r) ≡ length x
-unfolding fraction if◌then◌else◌
+unfolding fraction when◌then◌else◌
 fraction_run Form.none q e = rw e
 fraction_run {r = r} (Form.point {w} d) q e = digits_run (46 ∷ []) w r d q
 
 pub find_fraction : (s : List ℕ) → Part Fraction fraction s
-unfolding fraction if◌then◌else◌
+unfolding fraction when◌then◌else◌
 find_fraction [] = part [] Form.none refl
 find_fraction (b ∷ s) = go (is "." b) refl
   where
@@ -81,13 +81,13 @@ find_fraction (b ∷ s) = go (is "." b) refl
     go false e = part (b ∷ s) Form.none (rw e)
 
 pub exponent_run : {y r : List ℕ} → Exponent y → Stops digit r → among "eE" (at r 0) ≡ false → exponent (y ++ r) ≡ length y
-unfolding exponent sign digit if◌then◌else◌
+unfolding exponent sign digit when◌then◌else◌
 exponent_run Form.none q e = rw e
 exponent_run {r = r} (Form.unsigned {e = c} i (digits {b} {s} (one_more d a))) q e = rw (i, outside_among digit "+-" b refl d) (digits_run (c ∷ []) (b ∷ s) r (digits (one_more d a)) q)
 exponent_run {r = r} (Form.signed {e = c} {s = g} {w} i j d) q e = rw (i, j) (digits_run (c ∷ g ∷ []) w r d q)
 
 pub find_exponent : (s : List ℕ) → Part Exponent exponent s
-unfolding exponent sign if◌then◌else◌
+unfolding exponent sign when◌then◌else◌
 find_exponent [] = part [] Form.none refl
 find_exponent (b ∷ s) = go (among "eE" b) refl
   where

@@ -9,7 +9,7 @@ use lib.ListN.{length, drop, length-append}
 use lib.Seq.{drop-append_seam}
 use lib.Dec.{eqb}
 use borrow.Author.Tests.{eqb-true, not-false}
-use Rattle.paper.specs.Bytes.{if◌then◌else◌, bytes, at, is}
+use Rattle.paper.specs.Bytes.{when◌then◌else◌, bytes, at, is}
 use Rattle.paper.specs.Answer.{Answer, ok, refused}
 use Rattle.paper.specs.Tokens.{blank, Here}
 use Rattle.paper.specs.Scanner.{span, closing, gap, skip, past}
@@ -115,23 +115,23 @@ pub data Front : List ℕ → Type 0 where
   settled : {s : List ℕ} → Settled s → Front s
 
 gap_blank : (b : ℕ) (s : List ℕ) → blank b ≡ true → gap (b ∷ s) ≡ some 1
-unfolding gap if◌then◌else◌
+unfolding gap when◌then◌else◌
 gap_blank b s e = rw e
 
 gap_line : {c s : List ℕ} → Each no_LF c → LineEnd s → gap (bytes "//" ++ (c ++ s)) ≡ some (suc (suc (length c)))
-unfolding gap blank if◌then◌else◌
+unfolding gap blank when◌then◌else◌
 gap_line c s = rw (span_run c (line_stops s)) (ap some (omega arith))
 
 gap_comment : (c s : List ℕ) → Unclosed c → gap (bytes "/*" ++ ((c ++ bytes "*/") ++ s)) ≡ some (suc (suc (length (c ++ bytes "*/"))))
-unfolding gap blank if◌then◌else◌
+unfolding gap blank when◌then◌else◌
 gap_comment c s u = rw (append_assoc, closing_some c s u) (ap some (omega (arith, length-append c (bytes "*/"))))
 
 gap_never_closed : (s : List ℕ) → Unclosed s → gap (bytes "/*" ++ s) ≡ none
-unfolding gap blank if◌then◌else◌
+unfolding gap blank when◌then◌else◌
 gap_never_closed s u = rw (closing_none s u)
 
 gap_settled : (s : List ℕ) → Settled s → gap s ≡ some 0
-unfolding gap blank if◌then◌else◌
+unfolding gap blank when◌then◌else◌
 gap_settled [] h = refl
 gap_settled (b ∷ s) h = rw (h.no_blank, slash 47 refl (λ s h. (h.no_comment s).0 refl), slash 42 refl (λ s h. (h.no_comment s).1 refl))
   where

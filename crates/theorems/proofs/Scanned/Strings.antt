@@ -9,7 +9,7 @@ use mathlib.Core.Option.{Option, none, some}
 use lib.ListN.{length}
 use lib.Seq.{drop-append_seam}
 use borrow.Author.Tests.{eqb-true}
-use Rattle.paper.specs.Bytes.{if◌then◌else◌, at, is, among, between}
+use Rattle.paper.specs.Bytes.{when◌then◌else◌, at, is, among, between}
 use Rattle.paper.specs.Tokens.{octal, escaped}
 use Rattle.paper.specs.Scanner.{meant, quoted}
 use Rattle.paper.specs.Written.{Quoted, closed, plain, escape, octals}
@@ -19,7 +19,7 @@ use Rattle.theorems.proofs.Scanned.Classes.{or_left, or_right, and_left, and_rig
 
 -- a digit is no escape
 escape_no_digit : (e b : ℕ) → escaped e ≡ some b → between "0" "3" e ≡ false
-unfolding escaped if◌then◌else◌
+unfolding escaped when◌then◌else◌
 escape_no_digit e b h = is_false (λ d.
     let o = outside_among (between "0" "3") "ntbrf\\\"'" e refl d in
     let o₁ = or_right (is "n" e) _ o in
@@ -36,17 +36,17 @@ record Means (w : List ℕ) (b : ℕ) : Type 0 where
   meant_so : (s : List ℕ) → meant (w ++ s) ≡ some (b, length w)
 
 means_plain : (b : ℕ) → among "\"\\\n\r" b ≡ false → Means (b ∷ []) b
-unfolding meant if◌then◌else◌
+unfolding meant when◌then◌else◌
 means_plain b e =
     let o = or_right (is "\"" b) _ e in
     record { no_quote = λ s. or_left (is "\"" b) _ e; meant_so = λ s. rw (or_right (is "\\" b) _ o, or_left (is "\\" b) _ o) }
 
 means_escape : (e b : ℕ) → escaped e ≡ some b → Means (code "\\" ∷ e ∷ []) b
-unfolding meant if◌then◌else◌
+unfolding meant when◌then◌else◌
 means_escape e b h = record { no_quote = λ s. refl; meant_so = λ s. rw (escape_no_digit e b h, h) }
 
 means_octals : (x y z : ℕ) → between "0" "3" x ≡ true → octal y ≡ true → octal z ≡ true → Means (code "\\" ∷ x ∷ y ∷ z ∷ []) ((x - 48) * 64 + (y - 48) * 8 + (z - 48))
-unfolding meant if◌then◌else◌
+unfolding meant when◌then◌else◌
 means_octals x y z e i j = record { no_quote = λ s. refl; meant_so = λ s. rw (e, i, j) }
 
 -- ---- what is written is read
@@ -83,7 +83,7 @@ quotes_more f w h k (never {s} n) = never {s = w ++ s} (rw (h.no_quote s, quoted
 
 -- a backslash, and what stands after it
 quotes_escape : (f : ℕ) (s : List ℕ) → ((s : List ℕ) → Quotes f s) → Quotes (suc f) (code "\\" ∷ s)
-unfolding quoted meant octal escaped if◌then◌else◌
+unfolding quoted meant octal escaped when◌then◌else◌
 quotes_escape f [] again = never refl
 quotes_escape f (e ∷ s) again = go (between "0" "3" e && octal (at s 0) && octal (at s 1)) refl (escaped e) refl
   where
@@ -103,7 +103,7 @@ quotes_escape f (e ∷ s) again = go (between "0" "3" e && octal (at s 0) && oct
     go false i (some b) h = quotes_more f (92 ∷ e ∷ []) (means_escape e b h) (λ v t q. escape h q) (again s)
 
 pub find_quoted : (f : ℕ) (s : List ℕ) → Quotes f s
-unfolding quoted meant if◌then◌else◌
+unfolding quoted meant when◌then◌else◌
 find_quoted zero s = never refl
 find_quoted (suc f) [] = never refl
 find_quoted (suc f) (b ∷ s) = go (is "\"" b) refl (among "\n\r" b) refl (is "\\" b) refl (find_quoted f)

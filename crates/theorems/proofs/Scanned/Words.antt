@@ -10,7 +10,7 @@ use lib.IntN.{ℤ}
 use lib.Seq.{take-append_seam}
 use lib.Dec.{leb}
 use borrow.Author.Tests.{eqb-true, leb-true, leb-false, lt-ltb, le-ltb, ne_eqb}
-use Rattle.paper.specs.Bytes.{if◌then◌else◌, at, is, among}
+use Rattle.paper.specs.Bytes.{when◌then◌else◌, at, is, among}
 use Rattle.paper.specs.Syntax.{integer, decimal, string}
 use Rattle.paper.specs.Tokens.{digit, starts, goes_on, in_range, valued, Token, name, literal, mark, end}
 use Rattle.paper.specs.Scanner.{Scanned, token, fault, span, named, number, quoted, text, scan, whole, fraction, exponent}
@@ -25,7 +25,7 @@ use Rattle.theorems.proofs.Scanned.Numbers.{Part, part, Perhaps, absent, present
 -- ---- the five ways of `scan`
 
 scan_name : (b : ℕ) (s : List ℕ) → starts b ≡ true → scan (b ∷ s) ≡ named (span goes_on (b ∷ s)) (b ∷ s)
-unfolding scan if◌then◌else◌
+unfolding scan when◌then◌else◌
 scan_name b s e = rw e
 
 number_starts : (b : ℕ) → (digit b || is "-" b) ≡ true → starts b ≡ false
@@ -37,19 +37,19 @@ number_starts b e = go (digit b) refl
     go false i = subst (λ x. starts x ≡ false) (eqb-true 45 b (rw i at e)) refl
 
 scan_number : (b : ℕ) (s : List ℕ) → (digit b || is "-" b) ≡ true → scan (b ∷ s) ≡ numbered (b ∷ s)
-unfolding scan if◌then◌else◌
+unfolding scan when◌then◌else◌
 scan_number b s e = rw (number_starts b e, e)
 
 scan_string : (s : List ℕ) → scan (code "\"" ∷ s) ≡ text (quoted (suc (length s)) s)
-unfolding scan starts digit if◌then◌else◌
+unfolding scan starts digit when◌then◌else◌
 scan_string s = refl
 
 scan_mark : (b : ℕ) (s : List ℕ) → among ";,{}[]:" b ≡ true → scan (b ∷ s) ≡ token (mark b) 1
-unfolding scan starts digit if◌then◌else◌
+unfolding scan starts digit when◌then◌else◌
 scan_mark b s e = rw (among_outside starts ";,{}[]:" b refl e, among_outside (λ x. digit x || is "-" x) ";,{}[]:" b refl e, among_outside (is "\"") ";,{}[]:" b refl e, e)
 
 scan_other : (b : ℕ) (s : List ℕ) → starts b ≡ false → (digit b || is "-" b) ≡ false → is "\"" b ≡ false → among ";,{}[]:" b ≡ false → scan (b ∷ s) ≡ fault 2
-unfolding scan if◌then◌else◌
+unfolding scan when◌then◌else◌
 scan_other b s e₁ e₂ e₃ e₄ = rw (e₁, e₂, e₃, e₄)
 
 -- what is skipped begins no token
@@ -67,7 +67,7 @@ pub data Limit (t : Token) (k : ℕ) : Scanned → Type 0 where
   over : {n : ℕ} → Over t n → Limit t k (fault n)
 
 -- a token of which w may have n bytes
-limit_length : (t : Token) (w : List ℕ) (k n : ℕ) → (n < length w → Over t 6) → ((m : ℕ) → Over t m → n < length w) → Limit t k (if leb (length w) n then token t k else fault 6)
+limit_length : (t : Token) (w : List ℕ) (k n : ℕ) → (n < length w → Over t 6) → ((m : ℕ) → Over t m → n < length w) → Limit t k (when leb (length w) n then token t k else fault 6)
 limit_length t w k n f g = if_case (Limit t k) (leb (length w) n) _ _ (λ e. within (λ m o. omega (arith, leb-true (length w) n e, g m o))) (λ e. over (f (leb-false (length w) n e)))
 
 over_name : {w : List ℕ} (m : ℕ) → Over (name w) m → 255 < length w
@@ -123,13 +123,13 @@ at_seam (b ∷ v) r = at_seam v r
 
 module _ (w r : List ℕ) (g : goes_on (at r 0) ≡ false) (p : is "." (at r 0) ≡ false) where
   number_integer : 1 ≤ length w → Limit (literal (integer (valued w))) (length w) (number (length w) (length w) (w ++ r))
-  unfolding number if◌then◌else◌
+  unfolding number when◌then◌else◌
   number_integer n =
       rw (ne_eqb (length w) 0 (λ e. omega arith), at_seam w r, g, p, le-ltb (length w) (length w) (omega arith), take-append_seam)
       (if_case (Limit (literal (integer (valued w))) (length w)) (in_range (valued w)) _ _ (λ e. within (λ m o. true≢false (sym e ∙ over_integer m o))) (λ e. over (out_of_range e)))
 
   number_decimal : (k : ℕ) → 1 ≤ k → k < length w → Limit (literal (decimal w)) (length w) (number k (length w) (w ++ r))
-  unfolding number if◌then◌else◌
+  unfolding number when◌then◌else◌
   number_decimal k m l =
       rw (ne_eqb k 0 (λ e. omega arith), at_seam w r, g, p, lt-ltb k (length w) l, take-append_seam)
       (limit_length (literal (decimal w)) w (length w) 4095 long_decimal over_decimal)
@@ -180,7 +180,7 @@ writes_integer {w} W r g p =
     rw e (number_integer w r g p (some_whole W))
 
 pub scan_writes : {w : List ℕ} {t : Token} → Written w t → (r : List ℕ) → Apart t r → Limit t (length w) (scan (w ++ r))
-unfolding scan if◌then◌else◌
+unfolding scan when◌then◌else◌
 scan_writes (a_name {b} {w} e a) r q = writes_name b w r e a q
 scan_writes (an_integer W) r (g, p) = writes_integer W r g p
 scan_writes (a_decimal {w} {x} {y} W X Y l) r (g, p) =
@@ -198,7 +198,7 @@ pub data Word : List ℕ → Type 0 where
 
 -- a number, perhaps with something at once after it
 judge : {w x y : List ℕ} → Whole w → Fraction x → Exponent y → (r : List ℕ) → scan ((w ++ (x ++ y)) ++ r) ≡ number (length w) (length (w ++ (x ++ y))) ((w ++ (x ++ y)) ++ r) → Word ((w ++ (x ++ y)) ++ r)
-unfolding number if◌then◌else◌
+unfolding number when◌then◌else◌
 judge {w} {x} {y} W X Y r e = go (goes_on (at r 0) || is "." (at r 0)) refl X Y e
   where
     longest : {x y : List ℕ} → goes_on (at r 0) ≡ false → is "." (at r 0) ≡ false → Fraction x → Exponent y → Word ((w ++ (x ++ y)) ++ r)
@@ -215,7 +215,7 @@ judge {w} {x} {y} W X Y r e = go (goes_on (at r 0) || is "." (at r 0)) refl X Y 
 
 -- the three parts in turn
 find_number : {s : List ℕ} → scan s ≡ numbered s → Part Perhaps whole s → Word s
-unfolding number if◌then◌else◌
+unfolding number when◌then◌else◌
 find_number n (part r absent e) = let f : numbered r ≡ fault 2 = rw e in no_word (n ∙ f)
 find_number n (part r (present W) e) = fractions W (find_fraction r) e
   where

@@ -9,7 +9,7 @@ use mathlib.Core.Logic.{inl, ⊎_elim}
 use lib.ListN.{length, drop, get_or, length-append, get_or-append}
 use lib.Seq.{get_or-append-add}
 use lib.Dec.{lit<}
-use Rattle.paper.specs.Bytes.{if◌then◌else◌}
+use Rattle.paper.specs.Bytes.{when◌then◌else◌}
 use Rattle.paper.specs.Syntax.{Path, Basic, boolean, null, integer, decimal, string, reference, vector, Basics, εⱽ, ◌∷ⱽ◌}
 use Rattle.paper.specs.Tokens.{literal}
 use Rattle.paper.specs.Scanner.{token, scan}
@@ -170,7 +170,7 @@ record SameLabel (s : List ℕ) (i p : ℕ) (m : Field) : Type 0 where
   there : LabelThere s i p
 
 label_case : {s : List ℕ} {i p : ℕ} {l m : Field} → length s ≤ 32768 → Labelled s i l m → p ≡ word 2 (little 2 (figure 0 l)) 0 → SameLabel s i p m
-unfolding label_at figure if◌then◌else◌
+unfolding label_at figure when◌then◌else◌
 label_case short (no_label e) q = record { is = rw e; there = record { path = λ t. absurd (true≢false (sym t ∙ e)) } }
 label_case {s} {i} {p} short (path_label {p = p'} {r = r} e R) q =
     let z : p ≡ p' = q ∙ word_little 2 p' (omega (arith, reads_within R)) in
@@ -202,7 +202,7 @@ string_there s p {n} {t} c =
 
 module _ {s : List ℕ} {i k v : ℕ} (short : length s ≤ 32768) where
   value_case : (z : ℕ) {l m : Field} → Valued s i k l m → v ≡ word 8 (little 8 (figure z l)) 0 → SameValue s i k v m
-  unfolding value_at figure text_of is_long if◌then◌else◌
+  unfolding value_at figure text_of is_long when◌then◌else◌
   value_case z (same_number {v = v'} e f g) q =
       record {
         text = rw (e, f, g);

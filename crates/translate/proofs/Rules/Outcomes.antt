@@ -8,7 +8,7 @@ use lib.ListN.{length, drop, length-append, length-drop}
 use lib.Seq.{drop-drop, drop_at}
 use lib.Dec.{ltb, leb, eqb}
 use borrow.Author.Tests.{ltb-true, ltb-false, lt-leb, le-leb, leb-true, ne_eqb}
-use Rattle.paper.specs.Bytes.{if◌then◌else◌}
+use Rattle.paper.specs.Bytes.{when◌then◌else◌}
 use Rattle.paper.specs.Answer as paper
 use Rattle.paper.specs.Answer.{ok, refused, ◌>>=◌, demand}
 use Rattle.paper.specs.Syntax.{Block}
@@ -67,11 +67,11 @@ short_source s = gives_demand (leb (length s) 32768) 1 0 _ tt (λ e. any (leb-tr
 
 module _ (s w : List ℕ) where
   came : {r : Read} {w' : List ℕ} → ◌≡◌ {A = Result} (record { answer = r; work = w' }) (reads s w) → CameIs s w w' r
-  unfolding reads grammar.answered if◌then◌else◌
+  unfolding reads grammar.answered when◌then◌else◌
   came {r} {w'} e = by (ltb (length w) 65536) refl
     where
       result : Bool → paper.Answer (List Draft) → Result
-      result c m = if c then record { answer = Refused 8 0; work = w } else grammar.answered m w
+      result c m = when c then record { answer = Refused 8 0; work = w } else grammar.answered m w
 
       tells : (m : paper.Answer (List Draft)) (n : paper.Answer Block) → drafts s ≡ m → read s ≡ n → 65536 ≤ length w → Alike (DraftsOf s) m n
           → ◌≡◌ {A = Result} (record { answer = r; work = w' }) (grammar.answered m w) → CameIs s w w' r

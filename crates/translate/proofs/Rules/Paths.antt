@@ -6,7 +6,7 @@ use mathlib.Core.Bool.{true, false, true≢false, false≢true}
 use mathlib.Core.List.{List, [], ◌∷◌, ◌++◌}
 use mathlib.Core.Logic.{◌⊎◌, inl, inr}
 use lib.ListN.{length, take, drop, set, length-append, length-set, drop_of_length-le}
-use Rattle.paper.specs.Bytes.{if◌then◌else◌}
+use Rattle.paper.specs.Bytes.{when◌then◌else◌}
 use Rattle.paper.specs.Answer.{Answer, ok, refused, ◌>>=◌, demand}
 use Rattle.paper.specs.Syntax.{Path}
 use Rattle.paper.specs.Tokens.{Token, name, literal, mark, end, is_name, is_mark, Here}
@@ -95,7 +95,7 @@ turn {s} {i} {k} {sp} {r} e N = go k r (gives_ok (names_name k (here s i)) e)
 -- ---- where a path stands
 
 nothing_there : (k p : ℕ) → names (suc k) (record { place = p; rest = [] }) ≡ refused 3 p
-unfolding names next skip scan found is_name ◌>>=◌ demand if◌then◌else◌
+unfolding names next skip scan found is_name ◌>>=◌ demand when◌then◌else◌
 nothing_there k p = refl
 
 pub reads_within : {s : List ℕ} {p : ℕ} {r : Path} → Reads s p r → p < length s

@@ -7,7 +7,7 @@ use mathlib.Core.List.{List, [], ◌∷◌, ◌++◌, append_assoc}
 use lib.ListN.{length, length-append}
 use lib.Dec.{eqb}
 use borrow.Author.Tests.{eq-eqb, ne_eqb}
-use Rattle.paper.specs.Bytes.{if◌then◌else◌}
+use Rattle.paper.specs.Bytes.{when◌then◌else◌}
 use Rattle.paper.specs.Layout.{number, text, Row, little, path_text, long_text, text_of, row_text, row_bytes, figure, texts}
 use Rattle.theorems.proofs.Decoded.Parts.{length_little}
 use Rattle.theorems.proofs.Decoded.Header.{Lasts}
@@ -23,11 +23,11 @@ use Rattle.translate.proofs.Laid.{laid_length, laid}
 -- ---- tests
 
 pub figure_text : {b : Bool} (v t : ℕ) → b ≡ true → t ≡ figure_of b v t
-unfolding figure_of if◌then◌else◌
+unfolding figure_of when◌then◌else◌
 figure_text v t e = rw e
 
 pub figure_number : {b : Bool} (v t : ℕ) → b ≡ false → v ≡ figure_of b v t
-unfolding figure_of if◌then◌else◌
+unfolding figure_of when◌then◌else◌
 figure_number v t e = rw e
 
 pub long_decimal : (b : Bool) (k : ℕ) → k ≡ 4 → (b || is_long k) ≡ true
@@ -78,28 +78,28 @@ is_data i k f = rw (ne_eqb i 8 f)
 
 module _ (s : List ℕ) (i p : ℕ) where
   label_text : has_path i ≡ true → text_of (label_at s i p) ≡ path_text (path_at s p)
-  unfolding label_at text_of if◌then◌else◌
+  unfolding label_at text_of when◌then◌else◌
   label_text e = rw e
 
   label_none : has_path i ≡ false → text_of (label_at s i p) ≡ []
-  unfolding label_at text_of if◌then◌else◌
+  unfolding label_at text_of when◌then◌else◌
   label_none e = rw e
 
 module _ (s : List ℕ) (i k v : ℕ) where
   value_path : is_path i k ≡ true → text_of (value_at s i k v) ≡ path_text (path_at s v)
-  unfolding value_at text_of if◌then◌else◌
+  unfolding value_at text_of when◌then◌else◌
   value_path e = rw e
 
   value_decimal : is_path i k ≡ false → k ≡ 4 → text_of (value_at s i k v) ≡ long_text (said_at s v)
-  unfolding value_at text_of if◌then◌else◌
+  unfolding value_at text_of when◌then◌else◌
   value_decimal e f = let g : is_long k ≡ true = long_decimal false k f in rw (e, g)
 
   value_string : is_path i k ≡ false → k ≡ 5 → text_of (value_at s i k v) ≡ long_text (said_at s v)
-  unfolding value_at text_of if◌then◌else◌
+  unfolding value_at text_of when◌then◌else◌
   value_string e f = let g : is_long k ≡ true = long_string false k f in rw (e, g)
 
   value_none : is_path i k ≡ false → (k ≡ 4 → ⊥) → (k ≡ 5 → ⊥) → text_of (value_at s i k v) ≡ []
-  unfolding value_at text_of if◌then◌else◌
+  unfolding value_at text_of when◌then◌else◌
   value_none e f g = let h : is_long k ≡ false = no_long k f g in rw (e, h)
 
 put_none : (o : List ℕ) (to : ℕ) → Put o o to [] to
@@ -189,18 +189,18 @@ module _ (o : List ℕ) (n t : ℕ) (l : 24 ≤ length o) {o₁ o₂ o₃ o₄ o
 -- ---- a row
 
 label_figured : (s : List ℕ) (i p t : ℕ) → figure_of (has_path i) 0 t ≡ figure t (label_at s i p)
-unfolding label_at figure_of figure if◌then◌else◌
+unfolding label_at figure_of figure when◌then◌else◌
 label_figured s i p t = go (has_path i)
   where
-    go : (b : Bool) → figure_of b 0 t ≡ figure t (if b then text (path_text (path_at s p)) else number 0)
+    go : (b : Bool) → figure_of b 0 t ≡ figure t (when b then text (path_text (path_at s p)) else number 0)
     go true = refl
     go false = refl
 
 value_figured : (s : List ℕ) (i k v t : ℕ) → figure_of (is_path i k || is_long k) v t ≡ figure t (value_at s i k v)
-unfolding value_at figure_of figure if◌then◌else◌
+unfolding value_at figure_of figure when◌then◌else◌
 value_figured s i k v t = go (is_path i k) (is_long k)
   where
-    go : (b c : Bool) → figure_of (b || c) v t ≡ figure t (if b then text (path_text (path_at s v)) else if c then text (long_text (said_at s v)) else number v)
+    go : (b c : Bool) → figure_of (b || c) v t ≡ figure t (when b then text (path_text (path_at s v)) else when c then text (long_text (said_at s v)) else number v)
     go true c = refl
     go false true = refl
     go false false = refl

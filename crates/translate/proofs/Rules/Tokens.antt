@@ -10,7 +10,7 @@ use lib.ListN.{length, take, drop, length-append, length-drop, drop_of_length-le
 use lib.Seq.{take_all}
 use lib.Dec.{eqb}
 use borrow.Author.Tests.{eqb-true, eqb-false, eq-eqb, ne_eqb, le-leb}
-use Rattle.paper.specs.Bytes.{at, is, between, if◌then◌else◌}
+use Rattle.paper.specs.Bytes.{at, is, between, when◌then◌else◌}
 use Rattle.paper.specs.Answer.{Answer, ok, refused, ◌>>=◌}
 use Rattle.paper.specs.Syntax.{Basic, decimal, string}
 use Rattle.paper.specs.Tokens.{Token, name, literal, mark, end, is_name, is_mark, Here, blank, digit}
@@ -170,7 +170,7 @@ no_slash b e = or_false (is "/" b) (outside_among (λ b. between "0" "9" b || is
 
 -- a decimal's first byte is not skipped
 decimal_front : (s t : List ℕ) (n : ℕ) → scan s ≡ token (literal (decimal t)) n → gap s ≡ some 0
-unfolding gap if◌then◌else◌
+unfolding gap when◌then◌else◌
 decimal_front s t n e =
     let D = (decimal_shape (scan_shape s) e).1 in
     rw (no_blank (at s 0) D.begun, no_slash (at s 0) D.begun)
@@ -200,7 +200,7 @@ module _ (s : List ℕ) (p a e : ℕ) where
 -- ---- where they stand, and how long they are
 
 scan_nothing : scan [] ≡ token end 0
-unfolding scan if◌then◌else◌
+unfolding scan when◌then◌else◌
 scan_nothing = refl
 
 literal_within : (s : List ℕ) (p : ℕ) (b : Basic) (n : ℕ) → scan (drop p s) ≡ token (literal b) n → p < length s
@@ -290,7 +290,7 @@ pub record Decodes (o o' : List ℕ) (at n : ℕ) (t : List ℕ) : Type 0 where
 
 pub string_decoded : {s : List ℕ} {p : ℕ} {o : List ℕ} {to : ℕ} → StringFits s p o to → {o' : List ℕ} {n : ℕ}
     → ◌≡◌ {A = Decoded} (record { count = n; out = o' }) (decoded (scan (take (length s - p) (drop p s))) (to + 2) o) → Decodes o o' (to + 2) n (said_at s p)
-unfolding decoded put if◌then◌else◌
+unfolding decoded put when◌then◌else◌
 string_decoded {s} {p} {o} {to} F {o'} {n} e =
     let t = said_at s p in
     let l : to + 2 + length t ≤ length o = omega (arith, F.room.room, long_length t) in
