@@ -63,7 +63,8 @@ def turned(text, names):
 
 
 def comment(text, names):
-    """A comment speaks of a name between backquotes, or with a dash in it that no plain text has."""
+    """A comment speaks of a name between backquotes; `sfConfig` there is the description's."""
+    names = {n: r for n, r in names.items() if n != 'sfConfig'}
     return re.sub(r"`([^`\n]+)`", lambda m: '`' + turned(m.group(1), names) + '`', text)
 
 

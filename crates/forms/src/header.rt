@@ -6,6 +6,9 @@ ghost use Rattle.forms.specs.Header.{SizeIs, records_of, text_of};
 use crate::form::{Form, most_text, number, size};
 use memory::{get32, part};
 
+// The most records that a table or a step list has.
+const RECORDS: usize = 1024;
+
 #[derive(Clone, Copy)]
 pub enum Size {
     Records(usize),
@@ -32,7 +35,7 @@ pub fn count(form: Form, b: &[u8]) -> Size
         return Size::Unfit;
     }
     let n = long(b, 8);
-    if 1024 < n {
+    if RECORDS < n {
         return Size::Unfit;
     }
     let text = long(b, 16);

@@ -7,6 +7,11 @@ use forms::{Form, element_fits, kind_of, size, top};
 use memory::fits;
 use texts::{Past, leaf};
 
+const DEEPEST: usize = 32;
+
+// How many nodes a basic spans that is no vector.
+const LEAF: usize = 1;
+
 #[derive(Clone, Copy)]
 pub enum Walk {
     Walked { record: usize, text: usize },
@@ -20,7 +25,7 @@ pub fn head(form: Form, recs: &[u8], i: usize, depth: usize, left: usize) -> boo
     if !fits(recs.len(), i, size(form)) {
         return false;
     }
-    if 32 < depth {
+    if DEEPEST < depth {
         return false;
     }
     let span = span_at(recs, i);
@@ -65,7 +70,7 @@ pub fn basic(
         }
         return elements(form, recs, text, depth + 1, one_less(span), next, p);
     }
-    if span != 1 {
+    if span != LEAF {
         return Walk::Wrong;
     }
     match leaf(text, kind, value, p) {

@@ -40,14 +40,14 @@ pub data Runs (list start : List ℕ) : Answer (List ℕ) → Type 0 where
   accepted : {d : Block} {s t : Store} → IsStepList list d → IsTable start s → B⟦ d ⟧ [] s ≡ ok t
       → Runs list start (ok (table t))
 
--- ---- "Main: whole table to the table of `sf_config`."
+-- ---- "Main: whole table to the table of `sfConfig`."
 
 pub data TakesMain (whole : List ℕ) : Answer (List ℕ) → Type 0 where
   -- "step list / table not well-formed", 10
   no_table : ((s : Store) → IsTable whole s → ⊥) → TakesMain whole (refused 10 0)
   -- "main absent / no component", 19, 20
   no_main : {s : Store} {n p : ℕ} → IsTable whole s → main s ≡ refused n p → TakesMain whole (refused n p)
-  -- accepted: the table of `sf_config`
+  -- accepted: the table of `sfConfig`
   accepted : {s c : Store} → IsTable whole s → main s ≡ ok c → TakesMain whole (ok (table c))
 
 -- ---- demand 2, "Resolve: description to main table; it answers as translate, run over the empty table, then main."

@@ -59,7 +59,7 @@ unfoldable mutual
     s ← B⟦ b ⟧ r s
     P⟦ ps ⟧ ns r s
 
--- Definition 27, its last part: "Main is root name `sf_config`, a component." "main absent / no component", 19, 20
+-- Definition 27, its last part: "Main is root name `sfConfig`, a component." "main absent / no component", 19, 20
 unfoldable pub main : Store → Answer Store
 main s =
     elim (find (bytes "sfConfig" ∷ []) (component s)) [

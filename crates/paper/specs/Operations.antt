@@ -80,7 +80,7 @@ run_op list start output work₁ work₂ = do
   t ← run (steps d) s
   ok (table t)
 
--- "Main: whole table to the table of `sf_config`."
+-- "Main: whole table to the table of `sfConfig`."
 unfoldable pub main_op : List ℕ → ℕ → Answer (List ℕ)
 main_op whole output = do
   _ ← demand (leb least_table output) 8 0

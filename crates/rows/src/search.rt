@@ -94,7 +94,8 @@ pub fn deepest_of(w: &[u8], n: usize, lo: usize, hi: usize) -> usize
     let mut i = lo;
     while i < end {
         let deep = half(w, i * 16 + 2);
-        if most < deep {
+        let deeper = most < deep;
+        if deeper {
             most = deep;
         }
         i += 1;

@@ -11,6 +11,9 @@ use memory::{fits, part};
 // From this place on a text is the second one's.
 const SECOND: usize = 32768;
 
+// The place of the name that an element has not.
+const ELEMENT: usize = 65535;
+
 fn byte(t: &[u8], p: usize) -> usize
     ensures { (result ≡ get_or t.now p 0) × (result < 256) }
 {
@@ -79,7 +82,7 @@ fn named_in(t: &[u8], p: usize, name: &[u8]) -> bool
 pub fn is_named(t: &[u8], u: &[u8], p: usize, name: &[u8]) -> bool
     ensures { result ≡ calls (label_of t.now u.now p) name.now }
 {
-    if p == 65535 {
+    if p == ELEMENT {
         return false;
     }
     if p < SECOND {

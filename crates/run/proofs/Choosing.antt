@@ -1,4 +1,4 @@
--- The table of `sf_config`, from the rows of the whole store. Assumes nothing.
+-- The table of `sfConfig`, from the rows of the whole store. Assumes nothing.
 use Prim.Native.Nat.{ℕ, ◌+◌, ◌≤◌, ◌<◌}
 use native.Mathlib.Omega.{arith}
 use mathlib.Core.Path.{◌≡◌, refl, sym, ◌∙◌, ap, subst}

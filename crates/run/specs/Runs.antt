@@ -29,7 +29,7 @@ store_of list start = do
   s ← or_refused 10 (table_of start)
   run (steps d) s
 
--- its table, and the table of its `sf_config`
+-- its table, and the table of its `sfConfig`
 unfoldable pub whole_of : Paper.Answer Store → Paper.Answer (List ℕ)
 whole_of a = do
   t ← a
@@ -77,6 +77,6 @@ AnsweredIs a output output' r = (answered r ≡ told a) × (output' ≡ written 
 abbrev pub EvaluatedIs : List ℕ → List ℕ → List ℕ → Went → Type 0
 EvaluatedIs list start w' r = (next : ℕ) × (NextIn 0 r) × WentIs (view (text_of list) (text_of start) w') next (store_of list start) r
 
--- what is made of rows that are a store's: the table of its `sf_config`
+-- what is made of rows that are a store's: the table of its `sfConfig`
 abbrev pub MainIs : List ℕ → List ℕ → List ℕ → ℕ → List ℕ → List ℕ → Answer → Type 0
 MainIs t u w n output output' r = (s : Store) → IsBounded s → view t u w n ≡ flat 1 s → AnsweredIs (main_of (ok s)) output output' r

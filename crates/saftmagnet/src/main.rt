@@ -6,7 +6,7 @@
 //   run LIST TABLE  the step list in a file over the table in another to the whole table
 //
 // The answer goes to standard output: the bytes, or one line `refused N at P`. What cannot be read is told on standard error, and
-// then nothing goes to standard output. The exit status is always 0, since a program in Rattle has no other; `./sf` gives one.
+// then nothing goes to standard output. The exit status is always 0; `./sf` gives one.
 //
 // Of an input one byte more is read than any that is accepted has. An operation refuses so many bytes as it would refuse all of them.
 // The slices lie on the stack, and so do the calls, which nest as the input does, up to 32 deep.

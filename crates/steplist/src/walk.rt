@@ -11,6 +11,11 @@ use layout::Walk;
 use memory::fits;
 use texts::{Past, path_here};
 
+const DONE: usize = 5;
+
+// So many blocks and vectors may be open around one that is opened.
+const AROUND: usize = 31;
+
 // Statements, up to a leave or to the end of the records; so many blocks and vectors are open.
 #[cycle(prototype_prototypes_statement_statements_value)]
 pub(crate) fn statements(recs: &[u8], text: &[u8], depth: usize, first: usize, from: usize) -> Walk
@@ -70,7 +75,7 @@ fn value(recs: &[u8], text: &[u8], depth: usize, i: usize, p: usize) -> Walk
         return Walk::Wrong;
     }
     let first = i + 20;
-    if step_at(recs, first) == 5 {
+    if step_at(recs, first) == DONE {
         return Walk::Wrong;
     }
     prototypes(recs, text, depth, first, p)
@@ -118,7 +123,7 @@ fn prototype(recs: &[u8], text: &[u8], depth: usize, i: usize, p: usize) -> Walk
     if !bare(recs, i, 3) {
         return Walk::Wrong;
     }
-    if 31 < depth {
+    if AROUND < depth {
         return Walk::Wrong;
     }
     match statements(recs, text, depth + 1, i + 20, p) {

@@ -15,7 +15,8 @@ fn whole(recs: &[u8], text: &[u8], n: usize) -> bool
             if i < recs.len() {
                 return false;
             }
-            if p < text.len() {
+            let left_over = p < text.len();
+            if left_over {
                 return false;
             }
             distinct(recs, text, 0, n)

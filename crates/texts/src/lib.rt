@@ -9,6 +9,9 @@ ghost use Rattle.texts.specs.Text.{PastIs, LongIs, LeafIs, FieldIs};
 use memory::{fits, get16};
 use tokens::{is_decimal, is_name};
 
+// The most bytes that a string has.
+const LONGEST: usize = 4095;
+
 #[derive(Clone, Copy)]
 pub enum Past {
     At(usize),
@@ -127,7 +130,7 @@ fn string_end(text: &[u8], p: usize) -> Past
 {
     match long_end(text, p) {
         Past::At(end) => {
-            if end - (p + 2) <= 4095 {
+            if end - (p + 2) <= LONGEST {
                 Past::At(end)
             } else {
                 Past::Bad

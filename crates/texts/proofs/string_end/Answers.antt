@@ -9,11 +9,11 @@ overflow_add-p c = let L = rw c.in-At.is at c.long_end.ensures in omega arith
 pub overflow_sub-end : goal.overflow_sub-end
 overflow_sub-end c = let L = rw c.in-At.is at c.long_end.ensures in omega arith
 
-pub returns-then-end-p-le4095 : goal.returns-then-end-p-le4095
-returns-then-end-p-le4095 c = string_good _ _ _ (rw c.in-At.is at c.long_end.ensures) c.if-end-p-le4095.true
+pub returns-then-end-p-le-LONGEST : goal.returns-then-end-p-le-LONGEST
+returns-then-end-p-le-LONGEST c = string_good _ _ _ (rw c.in-At.is at c.long_end.ensures) c.if-end-p-le-LONGEST.true
 
-pub returns-else-end-p-le4095 : goal.returns-else-end-p-le4095
-returns-else-end-p-le4095 c = string_long _ _ _ (rw c.in-At.is at c.long_end.ensures) c.if-end-p-le4095.false
+pub returns-else-end-p-le-LONGEST : goal.returns-else-end-p-le-LONGEST
+returns-else-end-p-le-LONGEST c = string_long _ _ _ (rw c.in-At.is at c.long_end.ensures) c.if-end-p-le-LONGEST.false
 
 pub returns-in-Bad : goal.returns-in-Bad
 returns-in-Bad c = string_no c.args.text.now c.args.p (rw c.in-Bad.is at c.long_end.ensures)

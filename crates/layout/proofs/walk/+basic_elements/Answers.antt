@@ -31,14 +31,14 @@ basic-elements-requires t c = (omega (arith, c.decreases, c.one_less.ensures), f
 pub basic-returns-then-kind-eq7 : goal.basic-returns-then-kind-eq7
 basic-returns-then-kind-eq7 t c = (basic_vector c.args.form c.args.recs.now c.args.text.now c.args.depth c.args.span c.args.i c.args.p (record { byte = λ k. omega (arith, c.shared_slice_known-1.given k) }) (rw c.size-bytes.ensures.0 at (fits_yes (length c.args.recs.now) c.args.i c.size-bytes.result c.fits.ensures c.if-not-fits.false-raw)) _ _ c.kind_of-kind.ensures c.value_at-value.ensures c.elements.result c.if-kind-eq7.true c.if-value-ne0.false (rw c.top.ensures.0 at c.if-top-depth.false) (rw (c.size-bytes.ensures.0, c.one_less.ensures) at c.elements.ensures.0), c.elements.ensures.1)
 
-pub basic-returns-then-span-ne1 : goal.basic-returns-then-span-ne1
-basic-returns-then-span-ne1 t c = (basic_wide c.args.form c.args.recs.now c.args.text.now c.args.depth c.args.span c.args.i c.args.p (record { byte = λ k. omega (arith, c.shared_slice_known-1.given k) }) (rw c.size-bytes.ensures.0 at (fits_yes (length c.args.recs.now) c.args.i c.size-bytes.result c.fits.ensures c.if-not-fits.false-raw)) _ _ c.kind_of-kind.ensures c.value_at-value.ensures c.if-kind-eq7.false c.if-span-ne1.true, tt)
+pub basic-returns-then-span-ne-LEAF : goal.basic-returns-then-span-ne-LEAF
+basic-returns-then-span-ne-LEAF t c = (basic_wide c.args.form c.args.recs.now c.args.text.now c.args.depth c.args.span c.args.i c.args.p (record { byte = λ k. omega (arith, c.shared_slice_known-1.given k) }) (rw c.size-bytes.ensures.0 at (fits_yes (length c.args.recs.now) c.args.i c.size-bytes.result c.fits.ensures c.if-not-fits.false-raw)) _ _ c.kind_of-kind.ensures c.value_at-value.ensures c.if-kind-eq7.false c.if-span-ne-LEAF.true, tt)
 
 pub basic-returns-in-At : goal.basic-returns-in-At
-basic-returns-in-At t c = (rw c.size-bytes.ensures.0 (basic_leaf c.args.form c.args.recs.now c.args.text.now c.args.depth c.args.span c.args.i c.args.p (record { byte = λ k. omega (arith, c.shared_slice_known-1.given k) }) (rw c.size-bytes.ensures.0 at (fits_yes (length c.args.recs.now) c.args.i c.size-bytes.result c.fits.ensures c.if-not-fits.false-raw)) _ _ c.kind_of-kind.ensures c.value_at-value.ensures _ c.if-kind-eq7.false c.if-span-ne1.false (rw c.in-At.is at c.leaf.ensures)), fits_yes (length c.args.recs.now) c.args.i c.size-bytes.result c.fits.ensures c.if-not-fits.false-raw)
+basic-returns-in-At t c = (rw c.size-bytes.ensures.0 (basic_leaf c.args.form c.args.recs.now c.args.text.now c.args.depth c.args.span c.args.i c.args.p (record { byte = λ k. omega (arith, c.shared_slice_known-1.given k) }) (rw c.size-bytes.ensures.0 at (fits_yes (length c.args.recs.now) c.args.i c.size-bytes.result c.fits.ensures c.if-not-fits.false-raw)) _ _ c.kind_of-kind.ensures c.value_at-value.ensures _ c.if-kind-eq7.false c.if-span-ne-LEAF.false (rw c.in-At.is at c.leaf.ensures)), fits_yes (length c.args.recs.now) c.args.i c.size-bytes.result c.fits.ensures c.if-not-fits.false-raw)
 
 pub basic-returns-in-Bad : goal.basic-returns-in-Bad
-basic-returns-in-Bad t c = (basic_no c.args.form c.args.recs.now c.args.text.now c.args.depth c.args.span c.args.i c.args.p (record { byte = λ k. omega (arith, c.shared_slice_known-1.given k) }) (rw c.size-bytes.ensures.0 at (fits_yes (length c.args.recs.now) c.args.i c.size-bytes.result c.fits.ensures c.if-not-fits.false-raw)) _ _ c.kind_of-kind.ensures c.value_at-value.ensures c.if-kind-eq7.false c.if-span-ne1.false (rw c.in-Bad.is at c.leaf.ensures), tt)
+basic-returns-in-Bad t c = (basic_no c.args.form c.args.recs.now c.args.text.now c.args.depth c.args.span c.args.i c.args.p (record { byte = λ k. omega (arith, c.shared_slice_known-1.given k) }) (rw c.size-bytes.ensures.0 at (fits_yes (length c.args.recs.now) c.args.i c.size-bytes.result c.fits.ensures c.if-not-fits.false-raw)) _ _ c.kind_of-kind.ensures c.value_at-value.ensures c.if-kind-eq7.false c.if-span-ne-LEAF.false (rw c.in-Bad.is at c.leaf.ensures), tt)
 
 pub elements-loop-left-init : goal.elements-loop-left-init
 elements-loop-left-init t c = (omega arith, c.requires, λ r h. h)

@@ -21,8 +21,8 @@ prototype-returns-then-step_at-eq2 t c = prototype_take c.args.recs.now c.args.t
 pub prototype-returns-then-not-bare : goal.prototype-returns-then-not-bare
 prototype-returns-then-not-bare t c = block_marred c.args.recs.now c.args.text.now c.args.depth c.args.i c.args.p (record { byte = λ k. omega (arith, c.shared_slice_known-1.given k) }) c.requires _ c.step_at.ensures.0 c.if-step_at-eq2.false (rw (not-true c.bare.result c.if-not-bare.true-raw) at c.bare.ensures)
 
-pub prototype-returns-then-depth-gt31 : goal.prototype-returns-then-depth-gt31
-prototype-returns-then-depth-gt31 t c = block_deep c.args.recs.now c.args.text.now c.args.depth c.args.i c.args.p (record { byte = λ k. omega (arith, c.shared_slice_known-1.given k) }) c.requires _ c.step_at.ensures.0 c.if-step_at-eq2.false (rw (not-false c.bare.result c.if-not-bare.false-raw) at c.bare.ensures) c.if-depth-gt31.true
+pub prototype-returns-then-depth-gt-AROUND : goal.prototype-returns-then-depth-gt-AROUND
+prototype-returns-then-depth-gt-AROUND t c = block_deep c.args.recs.now c.args.text.now c.args.depth c.args.i c.args.p (record { byte = λ k. omega (arith, c.shared_slice_known-1.given k) }) c.requires _ c.step_at.ensures.0 c.if-step_at-eq2.false (rw (not-false c.bare.result c.if-not-bare.false-raw) at c.bare.ensures) c.if-depth-gt-AROUND.true
 
 pub prototype-overflow_add-depth : goal.prototype-overflow_add-depth
 prototype-overflow_add-depth t c = omega arith
@@ -34,16 +34,16 @@ pub prototype-statements-requires : goal.prototype-statements-requires
 prototype-statements-requires t c = (omega (arith, c.decreases, c.requires), tt)
 
 pub prototype-returns-then-not-closes : goal.prototype-returns-then-not-closes
-prototype-returns-then-not-closes t c = block_unclosed c.args.recs.now c.args.text.now c.args.depth c.args.i c.args.p (record { byte = λ k. omega (arith, c.shared_slice_known-1.given k) }) c.requires _ c.step_at.ensures.0 c.if-step_at-eq2.false (rw (not-false c.bare.result c.if-not-bare.false-raw) at c.bare.ensures) c.if-depth-gt31.false _ _ (rw c.in-Walked.is at c.statements.ensures) (rw (not-true c.closes.result c.if-not-closes.true-raw) at c.closes.ensures)
+prototype-returns-then-not-closes t c = block_unclosed c.args.recs.now c.args.text.now c.args.depth c.args.i c.args.p (record { byte = λ k. omega (arith, c.shared_slice_known-1.given k) }) c.requires _ c.step_at.ensures.0 c.if-step_at-eq2.false (rw (not-false c.bare.result c.if-not-bare.false-raw) at c.bare.ensures) c.if-depth-gt-AROUND.false _ _ (rw c.in-Walked.is at c.statements.ensures) (rw (not-true c.closes.result c.if-not-closes.true-raw) at c.closes.ensures)
 
 pub prototype-overflow_add-result : goal.prototype-overflow_add-result
 prototype-overflow_add-result t c = let h = closed_inside c.args.recs.now _ 4 (record { byte = λ k. omega (arith, c.shared_slice_known-1.given k) }) (rw (not-false c.closes.result c.if-not-closes.false-raw) at c.closes.ensures) in omega arith
 
 pub prototype-returns-else-not-closes : goal.prototype-returns-else-not-closes
-prototype-returns-else-not-closes t c = block_closed c.args.recs.now c.args.text.now c.args.depth c.args.i c.args.p (record { byte = λ k. omega (arith, c.shared_slice_known-1.given k) }) c.requires _ c.step_at.ensures.0 c.if-step_at-eq2.false (rw (not-false c.bare.result c.if-not-bare.false-raw) at c.bare.ensures) c.if-depth-gt31.false _ _ (rw c.in-Walked.is at c.statements.ensures) (rw (not-false c.closes.result c.if-not-closes.false-raw) at c.closes.ensures)
+prototype-returns-else-not-closes t c = block_closed c.args.recs.now c.args.text.now c.args.depth c.args.i c.args.p (record { byte = λ k. omega (arith, c.shared_slice_known-1.given k) }) c.requires _ c.step_at.ensures.0 c.if-step_at-eq2.false (rw (not-false c.bare.result c.if-not-bare.false-raw) at c.bare.ensures) c.if-depth-gt-AROUND.false _ _ (rw c.in-Walked.is at c.statements.ensures) (rw (not-false c.closes.result c.if-not-closes.false-raw) at c.closes.ensures)
 
 pub prototype-returns-in-Wrong : goal.prototype-returns-in-Wrong
-prototype-returns-in-Wrong t c = block_no c.args.recs.now c.args.text.now c.args.depth c.args.i c.args.p (record { byte = λ k. omega (arith, c.shared_slice_known-1.given k) }) c.requires _ c.step_at.ensures.0 c.if-step_at-eq2.false (rw (not-false c.bare.result c.if-not-bare.false-raw) at c.bare.ensures) c.if-depth-gt31.false (rw c.in-Wrong.is at c.statements.ensures)
+prototype-returns-in-Wrong t c = block_no c.args.recs.now c.args.text.now c.args.depth c.args.i c.args.p (record { byte = λ k. omega (arith, c.shared_slice_known-1.given k) }) c.requires _ c.step_at.ensures.0 c.if-step_at-eq2.false (rw (not-false c.bare.result c.if-not-bare.false-raw) at c.bare.ensures) c.if-depth-gt-AROUND.false (rw c.in-Wrong.is at c.statements.ensures)
 
 pub prototypes-loop-i-init : goal.prototypes-loop-i-init
 prototypes-loop-i-init t c = (omega arith, λ r h. h)
@@ -123,11 +123,11 @@ value-returns-then-value_at-ne0 t c = make_valued c.args.recs.now c.args.text.no
 pub value-overflow_add-first : goal.value-overflow_add-first
 value-overflow_add-first t c = omega (arith, c.requires)
 
-pub value-returns-then-step_at-eq5 : goal.value-returns-then-step_at-eq5
-value-returns-then-step_at-eq5 t c = make_done c.args.recs.now c.args.text.now c.args.depth c.args.i c.args.p c.requires _ c.step_at-step.ensures.0 c.if-step-eq6.false c.if-step-eq8.false (rw (not-false c.plain.result c.if-not-plain.false-raw) at c.plain.ensures) _ c.value_at.ensures c.if-value_at-ne0.false (record { byte = λ k. omega (arith, c.shared_slice_known-1.given k) }) _ c.step_at.ensures.0 c.if-step_at-eq5.true
+pub value-returns-then-step_at-eq-DONE : goal.value-returns-then-step_at-eq-DONE
+value-returns-then-step_at-eq-DONE t c = make_done c.args.recs.now c.args.text.now c.args.depth c.args.i c.args.p c.requires _ c.step_at-step.ensures.0 c.if-step-eq6.false c.if-step-eq8.false (rw (not-false c.plain.result c.if-not-plain.false-raw) at c.plain.ensures) _ c.value_at.ensures c.if-value_at-ne0.false (record { byte = λ k. omega (arith, c.shared_slice_known-1.given k) }) _ c.step_at.ensures.0 c.if-step_at-eq-DONE.true
 
 pub value-prototypes-requires : goal.value-prototypes-requires
 value-prototypes-requires t c = (omega (arith, c.decreases, c.requires), tt)
 
 pub value-returns : goal.value-returns
-value-returns t c = make_prototypes c.args.recs.now c.args.text.now c.args.depth c.args.i c.args.p c.requires _ c.step_at-step.ensures.0 c.if-step-eq6.false c.if-step-eq8.false (rw (not-false c.plain.result c.if-not-plain.false-raw) at c.plain.ensures) _ c.value_at.ensures c.if-value_at-ne0.false (record { byte = λ k. omega (arith, c.shared_slice_known-1.given k) }) _ c.step_at.ensures.0 c.if-step_at-eq5.false c.prototypes.result c.prototypes.ensures
+value-returns t c = make_prototypes c.args.recs.now c.args.text.now c.args.depth c.args.i c.args.p c.requires _ c.step_at-step.ensures.0 c.if-step-eq6.false c.if-step-eq8.false (rw (not-false c.plain.result c.if-not-plain.false-raw) at c.plain.ensures) _ c.value_at.ensures c.if-value_at-ne0.false (record { byte = λ k. omega (arith, c.shared_slice_known-1.given k) }) _ c.step_at.ensures.0 c.if-step_at-eq-DONE.false c.prototypes.result c.prototypes.ensures
