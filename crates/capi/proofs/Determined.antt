@@ -1,4 +1,4 @@
--- Of each C function, any two results that its contract allows for the same arguments are one: the answer, which in C is
+-- Of each function, any two results that its contract allows for the same arguments are one: the answer, which in C is
 -- the number itself, and the bytes of every slice that is lent. Assumes nothing.
 use Prim.Native.Nat.{ℕ}
 use mathlib.Core.List.{List, [], ◌∷◌}

@@ -1,4 +1,4 @@
-// The four operations as C functions: each slice is a pointer and a length, the answer one number.
+// The four operations as C is told of them: the answer is one number. `capi_c` exports them.
 #![tactic(auto)]
 
 ghost use Rattle.std.specs.Prelude.{◌≡◌, [], ◌∷◌, ◌≤◌, ◌+◌, ◌*◌};
@@ -20,8 +20,7 @@ fn refusal(number: usize, place: usize) -> u64
     number as u64 * HIGH + place as u64
 }
 
-#[unsafe(no_mangle)]
-pub extern "C" fn sf_translate(src: &[u8], out: &mut [u8], work: &mut [u8]) -> u64
+pub fn sf_translate(src: &[u8], out: &mut [u8], work: &mut [u8]) -> u64
     ensures { ◌≡◌ {A = Called} (record { result = result; output = out.new; works = work.new ∷ [] }) (in_c (translates src.now out.old work.old)) }
 {
     match translate(src, out, work) {
@@ -30,8 +29,7 @@ pub extern "C" fn sf_translate(src: &[u8], out: &mut [u8], work: &mut [u8]) -> u
     }
 }
 
-#[unsafe(no_mangle)]
-pub extern "C" fn sf_run<'a>(
+pub fn sf_run<'a>(
     steps: &'a [u8],
     table: &'a [u8],
     out: &mut [u8],
@@ -46,8 +44,7 @@ pub extern "C" fn sf_run<'a>(
     }
 }
 
-#[unsafe(no_mangle)]
-pub extern "C" fn sf_main(table: &[u8], out: &mut [u8]) -> u64
+pub fn sf_main(table: &[u8], out: &mut [u8]) -> u64
     ensures { ◌≡◌ {A = Called} (record { result = result; output = out.new; works = [] }) (in_c (takes_main table.now out.old)) }
 {
     match main(table, out) {
@@ -56,8 +53,7 @@ pub extern "C" fn sf_main(table: &[u8], out: &mut [u8]) -> u64
     }
 }
 
-#[unsafe(no_mangle)]
-pub extern "C" fn sf_resolve(
+pub fn sf_resolve(
     src: &[u8],
     out: &mut [u8],
     work1: &mut [u8],
