@@ -1,6 +1,7 @@
 -- Of each public function, any two results that its contract allows for the same arguments are one,
 -- with the bytes of the slice that is lent. Assumes nothing.
 use Rattle.paper.specs.Determines.{Determines, ◌&◌}
+use Rattle.memory.proofs.bytes.byte.Reads as Byte
 use Rattle.memory.proofs.bytes.clear.Reads as Clear
 use Rattle.memory.proofs.bytes.copy.Reads as Copy
 use Rattle.memory.proofs.bytes.slide.Reads as Slide
@@ -14,6 +15,7 @@ use Rattle.memory.proofs.number.put64.Reads as Put64
 use Rattle.memory.proofs.place.fits.Reads as Fits
 
 pub record Determined : Type 0 where
+  pub byte : Determines Byte.Post (λ _ (s, (at, _)). s.now & at) λ _ r _. r
   pub clear : Determines Clear.Post (λ _ (s, _). s.now) λ _ _ (s, _). s.now
   pub copy : Determines Copy.Post (λ _ (dst, (at, (src, _))). dst.now & at & src.now) λ _ _ (dst, _). dst.now
   pub slide : Determines Slide.Post (λ _ (s, (from, (to, (n, _)))). s.now & from & to & n) λ _ _ (s, _). s.now
@@ -29,6 +31,7 @@ pub record Determined : Type 0 where
 pub determined : Determined
 determined =
     record {
+      byte = λ _ _ _ _ _ _ _ _ g e f. cc;
       clear = λ _ _ _ _ _ _ _ _ g e f. cc;
       copy = λ _ _ _ _ _ _ _ _ g e f. cc;
       slide = λ _ _ _ _ _ _ _ _ g e f. cc;

@@ -15,6 +15,11 @@ use Rattle.paper.specs.Lent.{zeros, wiped}
 use Rattle.theorems.proofs.Laws.DecodeAt.{Bytes}
 use Rattle.paper.specs.DecodeAt.{word}
 use Rattle.theorems.proofs.Decoded.Parts.{length_little}
+use Rattle.std.specs.Prelude.{Option, Some, None, MatchOption}
+use Rattle.std.specs.Option.{unwrap_or, option_copied}
+use Rattle.std.specs.Array.{IsFirstChunk}
+use denote.Bor.{Bor}
+use lib.ListN.{replicate}
 use Rattle.memory.specs.Memory.{within, word_at, part_at, stored, slid}
 
 -- ---- by cases: what lies in the slice, and what does not
@@ -70,6 +75,13 @@ fits_yes size at n e h = leb-true (at + n) size (sym e ∙ not-false _ h)
 
 pub fits_no : (size at n : ℕ) {r : Bool} → r ≡ within size at n → not r ≡ true → size < at + n
 fits_no size at n e h = leb-false (at + n) size (sym e ∙ not-true _ h)
+
+-- the same of the answer itself
+pub lies : (size at n : ℕ) {r : Bool} → r ≡ within size at n → r ≡ true → at + n ≤ size
+lies size at n e h = leb-true (at + n) size (sym e ∙ h)
+
+pub lies_not : (size at n : ℕ) {r : Bool} → r ≡ within size at n → r ≡ false → size < at + n
+lies_not size at n e h = leb-false (at + n) size (sym e ∙ h)
 
 -- stored one by one
 pub stored_sets : (s : List ℕ) (at : ℕ) (b : List ℕ) → at + length b ≤ length s → stored s at b ≡ sets s at b
@@ -284,3 +296,32 @@ zeroed n s h = rw (length_zeros n) at (stored_front s (zeros n) (rw (length_zero
 pub clear_wiped : (s : List ℕ) → 65536 ≤ length s → stored s 0 (zeros 65536) ≡ wiped s
 unfolding wiped
 clear_wiped s h = zeroed 65536 s h
+
+-- ---- numbers as the library reads them
+
+zero_at : (m i : ℕ) → ◌≡◌ {A = ℕ} (get_or (replicate m 0) i 0) 0
+zero_at zero i = refl
+zero_at (suc m) zero = refl
+zero_at (suc m) (suc i) = zero_at m i
+
+word_zeros : (n m i : ℕ) → word n (replicate m 0) i ≡ 0
+unfolding word
+word_zeros zero m i = refl
+word_zeros (suc n) m i = omega (arith, zero_at m i, word_zeros n m (suc i))
+
+word_none : (n : ℕ) (b : List ℕ) (i : ℕ) → n ≡ 0 → word n b i ≡ 0
+unfolding word
+word_none zero b i e = refl
+word_none (suc n) b i e = absurd (omega arith)
+
+-- the first n bytes of the part of n bytes, or zeros where it is shorter
+pub chunk_word : (n : ℕ) (s : List ℕ) (at : ℕ) (o : Option (Bor (List ℕ)))
+    → MatchOption o (length (part_at s at n) < n) (λ y. IsFirstChunk (part_at s at n) y.now n)
+    → word n (unwrap_or (option_copied o) (replicate n 0)) 0 ≡ word_at n s at
+chunk_word n s at None h =
+    ⊎_elim (λ f. absurd (omega (arith, length_part s at n f))) (λ o. word_zeros n n 0 ∙ sym (word_out n s at o)) (fit (at + n) (length s))
+chunk_word n s at (Some y) h =
+    ⊎_elim
+    (λ f. same_word n y.now s 0 at (λ k l. rw (h.same, zero-add k) (get_or-take n (part_at s at n) k 0 l ∙ byte_part s at n k f l)) ∙ sym (word_in n s at f))
+    (λ o. word_none n y.now 0 (omega (arith, h.enough, ap length (part_out s at n o))) ∙ sym (word_out n s at o))
+    (fit (at + n) (length s))

@@ -1,32 +1,19 @@
 -- Loops that store: what is left to store, and the list that it is stored in, come to the same list at each turn. Assumes nothing.
-use Prim.Native.Nat.{ℕ, zero, suc, ◌+◌, ◌*◌, ◌-◌, ◌/◌, ◌%◌, ◌^◌, ◌≤◌, ◌<◌}
-use native.Mathlib.Nat.{add-zero, pow-suc, pow-le-pow_right}
-use native.Mathlib.Numerals.{add-one}
+use Prim.Native.Nat.{ℕ, zero, suc, ◌+◌, ◌-◌, ◌≤◌, ◌<◌}
+use native.Mathlib.Nat.{add-zero}
+use Rattle.std.proofs.Common.{add-one}
 use native.Mathlib.Omega.{arith}
 use mathlib.Core.Path.{◌≡◌, sym, ap, subst, ◌∙◌}
 use mathlib.Core.List.{List, [], ◌∷◌, ◌++◌}
 use lib.ListN.{length, take, drop, get_or, set, length-drop}
 use lib.Seq.{sets, drop-cons, take-suc, get_or-drop, drop-set-lt, drop-set-add, take-set-le, set_comm, length-take-le}
-use lib.Dec.{lit<}
-use Rattle.paper.specs.Layout.{little}
-use Rattle.paper.specs.Lent.{zeros}
-use Rattle.paper.specs.DecodeAt.{word}
 
 -- the first of what is left goes to its place
 pub turn : {b c t : List ℕ} {v : ℕ} (s : List ℕ) (p q : ℕ) → q ≡ suc p → sets s p b ≡ t → b ≡ v ∷ c → sets (set s p v) q c ≡ t
 turn s p q e h f = rw e (sym (ap (sets s p) f) ∙ h)
 
--- what is left of each: of a number, of a list, of zeros, of a part of the list itself
-pub little_left : (n i x : ℕ) → i < n → little (n - i) x ≡ x % 256 ∷ little (n - (i + 1)) (x / 256)
-unfolding little
-little_left n i x h = let q : n - i ≡ suc (n - (i + 1)) = omega arith in rw q
-
 pub list_left : (b : List ℕ) (i : ℕ) → i < length b → drop i b ≡ get_or b i 0 ∷ drop (i + 1) b
 list_left b i h = rw (add-one i) (drop-cons b i 0 h)
-
-pub zeros_left : (n i : ℕ) → i < n → zeros (n - i) ≡ 0 ∷ zeros (n - (i + 1))
-unfolding zeros
-zeros_left n i h = let q : n - i ≡ suc (n - (i + 1)) = omega arith in rw q
 
 pub own_left : (s : List ℕ) (from to n i v : ℕ) → to ≤ from → i < n → from + n ≤ length s
     → take (n - i) (drop (from + i) s) ≡ get_or s (from + i) 0 ∷ take (n - (i + 1)) (drop (from + (i + 1)) (set s (to + i) v))
@@ -60,20 +47,3 @@ up_turn s t from to (suc k) p o l h =
     rw (e, same) (f ∙ ap (sets s to) (sym g) ∙ h)
 
 -- ---- a number read from its highest byte down: i bytes are left
-
-pub word_turn : (s : List ℕ) (at n i x b : ℕ) → 0 < i → i ≤ n → x ≡ word (n - i) s (at + i) → b ≡ get_or s (at + (i - 1)) 0 → x * 256 + b ≡ word (n - (i - 1)) s (at + (i - 1))
-unfolding word
-word_turn s at n i x b h l e f =
-    let q : n - (i - 1) ≡ suc (n - i) = omega arith in
-    let p : suc (at + (i - 1)) ≡ at + i = omega arith in
-    let g : word (n - i) s (suc (at + (i - 1))) ≡ x = rw p (sym e) in
-    rw q (omega (arith, g))
-
-pub grown : (n i x b : ℕ) → 0 < i → i ≤ n → b < 256 → x < 256 ^ (n - i) → x * 256 + b < 256 ^ (n - (i - 1))
-grown n i x b h l j k =
-    let q : n - (i - 1) ≡ suc (n - i) = omega arith in
-    rw q (omega (arith, pow-suc 256 (n - i)))
-
--- of eight bytes or fewer there is room for one more
-pub room : (n i x : ℕ) → 0 < i → n ≤ 8 → x < 256 ^ (n - i) → x * 256 + 256 ≤ 18446744073709551616
-room n i x h l k = omega (arith, pow-le-pow_right {n = 256} (lit< tt) {i = n - i} {j = 7} (omega arith))

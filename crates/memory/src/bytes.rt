@@ -1,5 +1,5 @@
 // Runs of bytes: copied, moved, zeroed, cut out.
-ghost use Rattle.std.specs.Prelude.{◌≡◌, ◌+◌, ◌≤◌, length, take, drop};
+ghost use Rattle.std.specs.Prelude.{◌≡◌, ◌+◌, ◌<◌, ◌≤◌, length, take, drop, get_or};
 ghost use Rattle.paper.specs.Lent.{zeros};
 ghost use Rattle.memory.specs.Memory.{part_at, stored, slid};
 
@@ -8,16 +8,15 @@ use crate::place::fits;
 // As many bytes as an operation asks of a work slice.
 const WORK: usize = 65536;
 
+// No `copy_from_slice`, and below no `copy_within`: both call memmove, and the archive for C calls nothing but memset
+// (bindings/saftmagnet.h).
 pub fn copy(dst: &mut [u8], at: usize, src: &[u8])
     ensures { dst.new ≡ stored dst.old at src.now }
 {
-    if !fits(dst.len(), at, src.len()) {
-        return;
-    }
-    let mut i: usize = 0;
-    while i < src.len() {
-        dst[at + i] = src[i];
-        i += 1;
+    if fits(dst.len(), at, src.len()) {
+        for (i, b) in src.iter().enumerate() {
+            dst[at + i] = *b;
+        }
     }
 }
 
@@ -26,11 +25,9 @@ fn move_down(s: &mut [u8], from: usize, to: usize, n: usize)
     requires { (to ≤ from) × (from + n ≤ length s.old) }
     ensures { s.new ≡ stored s.old to (take n (drop from s.old)) }
 {
-    let mut i: usize = 0;
-    while i < n {
+    for i in 0..n {
         let b = s[from + i];
         s[to + i] = b;
-        i += 1;
     }
 }
 
@@ -39,9 +36,7 @@ fn move_up(s: &mut [u8], from: usize, to: usize, n: usize)
     requires { (from ≤ to) × (to + n ≤ length s.old) }
     ensures { s.new ≡ stored s.old to (take n (drop from s.old)) }
 {
-    let mut i = n;
-    while 0 < i {
-        i -= 1;
+    for i in (0..n).rev() {
         let b = s[from + i];
         s[to + i] = b;
     }
@@ -64,17 +59,12 @@ pub fn slide(s: &mut [u8], from: usize, to: usize, n: usize)
     move_up(s, from, to, n);
 }
 
-// Over any n, so that no proof meets the literal.
+// The first n bytes; where there are fewer, none.
 fn zero(s: &mut [u8], n: usize)
     ensures { s.new ≡ stored s.old 0 (zeros n) }
 {
-    if s.len() < n {
-        return;
-    }
-    let mut i: usize = 0;
-    while i < n {
-        s[i] = 0;
-        i += 1;
+    if n <= s.len() {
+        s[..n].fill(0);
     }
 }
 
@@ -85,14 +75,20 @@ pub fn clear(s: &mut [u8])
     zero(s, WORK);
 }
 
-// What does not fit is the empty part at the end, since a reference has to point somewhere.
+// Not an Option: what does not fit is the empty part, as `part_at` has it.
 pub fn part(s: &[u8], at: usize, len: usize) -> &[u8]
     ensures { result.now ≡ part_at s.now at len }
 {
-    let size = s.len();
-    if !fits(size, at, len) {
-        return &s[size..size];
+    if fits(s.len(), at, len) {
+        &s[at..at + len]
+    } else {
+        &s[s.len()..]
     }
-    let end = at + len;
-    &s[at..end]
+}
+
+// The byte at a place; past the end, 0.
+pub fn byte(s: &[u8], at: usize) -> usize
+    ensures { (result ≡ get_or s.now at 0) × (result < 256) }
+{
+    s.get(at).map_or(0, |b| usize::from(*b))
 }

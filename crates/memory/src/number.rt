@@ -1,82 +1,51 @@
 // Numbers in a slice, the lowest byte first.
-ghost use Rattle.std.specs.Prelude.{◌≡◌, ◌^◌, ◌≤◌, ◌<◌};
+ghost use Rattle.std.specs.Prelude.{◌≡◌, length};
+ghost use Rattle.paper.specs.DecodeAt.{word};
 ghost use Rattle.paper.specs.Layout.{little};
 ghost use Rattle.memory.specs.Memory.{word_at, stored};
 
-use crate::place::fits;
+use crate::bytes::{copy, part};
 
-// With its bound, which a cast does not tell.
-fn wide(b: u8) -> u64
-    ensures { (result ≡ b) × (result < 256) }
+// The N bytes at a place; zeros where they do not lie in the slice.
+fn bytes_at<const N: usize>(s: &[u8], at: usize) -> [u8; N]
+    ensures { word N result 0 ≡ word_at N s.now at }
 {
-    b as u64
+    part(s, at, N).first_chunk().copied().unwrap_or([0; N])
 }
 
-// From the highest byte down, so that each turn is one step of the definition.
-fn get(s: &[u8], at: usize, n: usize) -> u64
-    requires { n ≤ 8 }
-    ensures { (result ≡ word_at n s.now at) × (result < 256 ^ n) }
-{
-    if !fits(s.len(), at, n) {
-        return 0;
-    }
-    let mut x: u64 = 0;
-    let mut i = n;
-    while 0 < i {
-        i -= 1;
-        x = x * 256 + wide(s[at + i]);
-    }
-    x
-}
-
+// Three of each, since `from_le_bytes` and `to_le_bytes` belong to a type: a trait over the three would be no plainer.
 pub fn get16(s: &[u8], at: usize) -> u16
     ensures { result ≡ word_at 2 s.now at }
 {
-    get(s, at, 2) as u16
+    u16::from_le_bytes(bytes_at(s, at))
 }
 
 pub fn get32(s: &[u8], at: usize) -> u32
     ensures { result ≡ word_at 4 s.now at }
 {
-    get(s, at, 4) as u32
+    u32::from_le_bytes(bytes_at(s, at))
 }
 
 pub fn get64(s: &[u8], at: usize) -> u64
     ensures { result ≡ word_at 8 s.now at }
 {
-    get(s, at, 8)
-}
-
-// Digit by digit, as the definition has it: one loop for every width.
-fn put(s: &mut [u8], at: usize, n: usize, x: u64)
-    ensures { s.new ≡ stored s.old at (little n x) }
-{
-    if !fits(s.len(), at, n) {
-        return;
-    }
-    let mut rest = x;
-    let mut i: usize = 0;
-    while i < n {
-        s[at + i] = (rest % 256) as u8;
-        rest = rest / 256;
-        i += 1;
-    }
+    u64::from_le_bytes(bytes_at(s, at))
 }
 
 pub fn put16(s: &mut [u8], at: usize, x: u16)
     ensures { s.new ≡ stored s.old at (little 2 x) }
 {
-    put(s, at, 2, x as u64);
+    copy(s, at, &u16::to_le_bytes(x));
 }
 
 pub fn put32(s: &mut [u8], at: usize, x: u32)
     ensures { s.new ≡ stored s.old at (little 4 x) }
 {
-    put(s, at, 4, x as u64);
+    copy(s, at, &u32::to_le_bytes(x));
 }
 
 pub fn put64(s: &mut [u8], at: usize, x: u64)
     ensures { s.new ≡ stored s.old at (little 8 x) }
 {
-    put(s, at, 8, x);
+    copy(s, at, &u64::to_le_bytes(x));
 }

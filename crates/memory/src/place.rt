@@ -6,8 +6,5 @@ ghost use Rattle.memory.specs.Memory.{within};
 pub fn fits(size: usize, at: usize, n: usize) -> bool
     ensures { result ≡ within size at n }
 {
-    if size < n {
-        return false;
-    }
-    at <= size - n
+    n <= size && at <= size - n
 }

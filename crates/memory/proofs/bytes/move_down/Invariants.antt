@@ -1,11 +1,8 @@
-use Prim.Native.Nat.{◌+◌, ◌-◌, ◌≤◌}
+use Prim.Native.Nat.{◌+◌, ◌-◌}
 use mathlib.Core.Path.{◌≡◌}
 use lib.ListN.{length, take, drop}
 use lib.Seq.{sets}
 use Rattle.memory.proofs.bytes.move_down.Given as goal
 
 abbrev pub invariant-loop-i : goal.invariant-loop-i
-invariant-loop-i l = (l.i ≤ l.n) × (length l.s ≡ length l.initial.s) × (sets l.s (l.to + l.i) (take (l.n - l.i) (drop (l.from + l.i) l.s)) ≡ sets l.initial.s l.to (take l.n (drop l.from l.initial.s)))
-
-abbrev pub decreases-loop-i : goal.decreases-loop-i
-decreases-loop-i l = l.n - l.i
+invariant-loop-i l = (length l.s ≡ length l.initial.s) × (sets l.s (l.to + l.i) (take (l.n - l.i) (drop (l.from + l.i) l.s)) ≡ sets l.initial.s l.to (take l.n (drop l.from l.initial.s)))

@@ -1,35 +1,16 @@
 -- `memory::bytes::zero` meets its contract. Assumes nothing.
-use Prim.Native.Nat.{◌+◌, ◌-◌}
-use native.Mathlib.Nat.{sub-zero}
-use native.Mathlib.Omega.{arith}
-use mathlib.Core.Path.{◌≡◌, refl, sym, ◌∙◌}
-use lib.ListN.{length-set}
+use Rattle.std.proofs.Common.{arith, sym, ap, ◌≡◌, ◌∙◌, replicate}
+use Rattle.std.proofs.lemmas.List.{length-take-le}
 use Rattle.paper.specs.Lent.{zeros}
-use Rattle.memory.proofs.Laws.{length_zeros, stored_out, stored_sets}
-use Rattle.memory.proofs.Turns.{turn, zeros_left}
+use Rattle.memory.proofs.Laws.{length_zeros, stored_front, stored_out}
 use Rattle.memory.proofs.bytes.zero.Goals as goal
 
-pub returns-then-s-n : goal.returns-then-s-n
-returns-then-s-n c =
-    let a = c.args in
-    sym (stored_out a.s.now 0 (zeros a.n) (omega (arith, length_zeros a.n)))
-
-pub loop-i-init : goal.loop-i-init
-loop-i-init c = (omega arith, omega arith, refl, rw (sub-zero c.args.n))
-
-pub loop-i-preserved : goal.loop-i-preserved
-loop-i-preserved c =
-    let l = c.loop-i in
-    let n = c.args.n in
-    (omega arith, l.invariant.1, simp length-set l.invariant.2, turn l.s l.i (l.i + 1) (omega arith) l.invariant.3 (zeros_left n l.i (omega arith)))
-
-pub shape_of-s : goal.shape_of-s
-shape_of-s c = c.loop-i.invariant.2
-
-pub returns : goal.returns
+pub returns-then-n-s : goal.returns-then-n-s
 unfolding zeros
-returns c =
-    let l = c.loop-i in
-    let a = c.args in
-    let e : a.n - l.i ≡ 0 = omega arith in
-    rw e at l.invariant.3 ∙ sym (stored_sets a.s.now 0 (zeros a.n) (omega (arith, length_zeros a.n)))
+returns-then-n-s c =
+    let n = c.args.n in
+    let z : c.fill.new.self ≡ zeros n = c.fill.ensures.after (λ y h. h) ∙ ap (λ k. replicate k 0) (length-take-le n c.args.s.now c.if-n-s.true) in
+    rw z (sym (stored_front c.args.s.now (zeros n) (omega (arith, length_zeros n)) ∙ rw (length_zeros n)))
+
+pub returns-else-n-s : goal.returns-else-n-s
+returns-else-n-s c = let n = c.args.n in sym (stored_out _ 0 (zeros n) (omega (arith, length_zeros n)))
