@@ -13,7 +13,8 @@ use Rattle.paper.specs.Bytes.{at, is, when◌then◌else◌}
 use Rattle.paper.specs.Tokens.{starts, digit}
 use Rattle.paper.specs.Scanner.{Scanned, named, number, text, scan, empty}
 use Rattle.theorems.proofs.Laws.Answers.{if_case}
-use Rattle.spelling.specs.declared.text.Quoted.TheVariants.{Closed, Unclosed}
+use Rattle.std.proofs.Common.{Some, None}
+use Rattle.spelling.specs.declared.text.Quoted.{Quoted}
 use Rattle.spelling.specs.Text.{quotes, quoted_of, is_closed, text_in, put}
 use Rattle.spelling.specs.Spelt.{string_of, text_of, Decoded, decoded}
 use Rattle.spelling.proofs.At.{there}
@@ -51,21 +52,21 @@ a_string s h =
     scan_string s (λ e. omega (arith, there s 0 34 h (lit< tt))) (ap starts h) (ap (λ (b : ℕ). digit b || is "-" b) h) (eq-eqb 34 (at s 0) (sym h))
 
 module _ (o : Option (List ℕ × ℕ)) where
-  pub closed_told : (n e : ℕ) → Closed n e ≡ quoted_of 0 1 o → (is_closed o ≡ true) × (n ≡ length (text_in o))
+  pub closed_told : (q : Quoted) → Some q ≡ quoted_of 0 1 o → (is_closed o ≡ true) × (q.count ≡ length (text_in o))
   unfolding quoted_of is_closed text_in
-  closed_told n e h = go o h
+  closed_told q h = go o h
     where
-      go : (o : Option (List ℕ × ℕ)) → Closed n e ≡ quoted_of 0 1 o → (is_closed o ≡ true) × (n ≡ length (text_in o))
-      go none h = let z : ◌≡◌ {A = ℕ} 0 1 = cc in absurd (omega arith)
-      go (some r) h = let q : n ≡ 0 + length r.0 = cc in (refl, omega arith)
+      go : (o : Option (List ℕ × ℕ)) → Some q ≡ quoted_of 0 1 o → (is_closed o ≡ true) × (q.count ≡ length (text_in o))
+      go none h = cc
+      go (some r) h = let e : q ≡ record { count = 0 + length r.0; end = 1 + r.1 } = cc in (refl, ap (λ (y : Quoted). y.count) e ∙ omega arith)
 
-  pub unclosed_told : Unclosed ≡ quoted_of 0 1 o → text_of (text o) ≡ []
+  pub unclosed_told : None ≡ quoted_of 0 1 o → text_of (text o) ≡ []
   unfolding quoted_of text_of text
   unclosed_told h = go o h
     where
-      go : (o : Option (List ℕ × ℕ)) → Unclosed ≡ quoted_of 0 1 o → text_of (text o) ≡ []
+      go : (o : Option (List ℕ × ℕ)) → None ≡ quoted_of 0 1 o → text_of (text o) ≡ []
       go none h = refl
-      go (some r) h = let z : ◌≡◌ {A = ℕ} 0 1 = cc in absurd (omega arith)
+      go (some r) h = cc
 
   pub text_short : is_closed o ≡ true → length (text_in o) ≤ 4095 → text_of (text o) ≡ text_in o
   unfolding is_closed text_in text_of string_of text when◌then◌else◌

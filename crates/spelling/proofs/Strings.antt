@@ -3,87 +3,25 @@ use mathlib.Core.Path.{◌≡◌, refl, sym, ap, ap₂, ◌∙◌}
 use mathlib.Core.Bool.{Bool, true, false, ◌&&◌, true≢false, false≢true}
 use mathlib.Core.List.{List, [], ◌∷◌, ◌++◌}
 use mathlib.Core.Option.{Option, none, some}
-use Prim.Native.Nat.{ℕ, zero, suc, ◌+◌, ◌≤◌, ◌<◌}
+use Prim.Native.Nat.{ℕ, zero, suc, ◌+◌, ◌-◌, ◌≤◌, ◌<◌}
 use native.Mathlib.Numerals.{add-one}
 use native.Mathlib.Omega.{arith}
+use Rattle.std.proofs.Common.{Some, None}
+use Rattle.std.specs.Prelude as Rust
 use lib.ListN.{length, take, drop, get_or, set, drop_of_length-le, length-drop}
 use lib.Seq.{drop-drop, paste, paste-suc, take_all}
-use lib.Dec.{leb, lit<}
-use borrow.Author.Tests.{eq-eqb, ne_eqb, eqb-true, leb-true}
+use lib.Dec.{ltb, lit<}
+use borrow.Author.Tests.{eq-eqb, ne_eqb, eqb-true, ltb-true, ltb-false}
 use Rattle.paper.specs.Bytes.{at, is, among, between, when◌then◌else◌}
 use Rattle.paper.specs.Tokens.{octal, escaped}
 use Rattle.paper.specs.Scanner.{meant, quoted, empty}
 use Rattle.theorems.proofs.Laws.Answers.{if_case}
-use Rattle.theorems.proofs.Scanned.Classes.{and_left, and_right, or_right}
-use Rattle.spelling.specs.declared.text.Meant.TheVariants.{Byte, Bad}
-use Rattle.spelling.specs.declared.text.Quoted.TheVariants.{Closed}
-use Rattle.spelling.specs.Text.{meant_of, escape_of, octals_at, octal_value, quotes, quoted_of, is_closed, text_in, put, itself_of}
-use Rattle.spelling.proofs.At.{at_in, at_drop, there, class_there}
-
--- ---- three octal digits
-
-pub record Octals (s : List ℕ) : Type 0 where
-  pub x_low : 48 ≤ at s 1
-  pub x_high : at s 1 ≤ 51
-  pub y_low : 48 ≤ at s 2
-  pub y_high : at s 2 ≤ 55
-  pub z_low : 48 ≤ at s 3
-  pub z_high : at s 3 ≤ 55
-
-pub octal_bounds : (s : List ℕ) → octals_at s ≡ true → Octals s
-unfolding octals_at octal
-octal_bounds s e =
-    let xy = and_left (between "0" "3" (at s 1) && octal (at s 2)) (octal (at s 3)) e in
-    let x = and_left (between "0" "3" (at s 1)) (octal (at s 2)) xy in
-    let y = and_right (between "0" "3" (at s 1)) (octal (at s 2)) xy in
-    let z = and_right (between "0" "3" (at s 1) && octal (at s 2)) (octal (at s 3)) e in
-    record {
-      x_low = leb-true 48 (at s 1) (and_left (leb 48 (at s 1)) (leb (at s 1) 51) x);
-      x_high = leb-true (at s 1) 51 (and_right (leb 48 (at s 1)) (leb (at s 1) 51) x);
-      y_low = leb-true 48 (at s 2) (and_left (leb 48 (at s 2)) (leb (at s 2) 55) y);
-      y_high = leb-true (at s 2) 55 (and_right (leb 48 (at s 2)) (leb (at s 2) 55) y);
-      z_low = leb-true 48 (at s 3) (and_left (leb 48 (at s 3)) (leb (at s 3) 55) z);
-      z_high = leb-true (at s 3) 55 (and_right (leb 48 (at s 3)) (leb (at s 3) 55) z);
-    }
+use Rattle.theorems.proofs.Scanned.Classes.{and_right, or_right}
+use Rattle.spelling.specs.declared.text.Meant.{Meant}
+use Rattle.spelling.specs.Text.{meant_of, quotes, quoted_of, is_closed, text_in, put}
+use Rattle.spelling.proofs.At.{at_in, at_drop, rest, there, class_there}
 
 -- ---- the byte that is meant
-
-module _ (s : List ℕ) where
-  pub meant_end : length s ≡ 0 → Bad ≡ meant_of (meant s)
-  unfolding meant_of meant when◌then◌else◌
-  meant_end h = go s h
-    where
-      go : (s : List ℕ) → length s ≡ 0 → Bad ≡ meant_of (meant s)
-      go [] h = refl
-      go (b ∷ s) h = absurd (omega arith)
-
-  pub meant_line : among "\n\r" (at s 0) ≡ true → Bad ≡ meant_of (meant s)
-  unfolding meant_of meant when◌then◌else◌
-  meant_line e = rw e
-
-  not_empty : (b : ℕ) → at s 0 ≡ b → b < 256 → empty s ≡ false
-  not_empty b e h = go s e
-    where
-      go : (s : List ℕ) → at s 0 ≡ b → empty s ≡ false
-      go [] e = absurd (omega arith)
-      go (x ∷ s) e = refl
-
-  pub meant_plain : at s 0 < 256 → among "\n\r" (at s 0) ≡ false → is "\\" (at s 0) ≡ false → Byte (at s 0) 1 ≡ meant_of (meant s)
-  unfolding meant_of meant when◌then◌else◌
-  meant_plain h e f = rw (e, not_empty (at s 0) refl h, f)
-
-  module _ (h : at s 0 ≡ 92) where
-    pub meant_octals : octals_at s ≡ true → Byte (octal_value s) 4 ≡ meant_of (meant s)
-    unfolding meant_of meant octals_at octal_value when◌then◌else◌
-    meant_octals e = rw (h, not_empty 92 h (lit< tt), e)
-
-    pub meant_escape : octals_at s ≡ false → escape_of (escaped (at s 1)) ≡ meant_of (meant s)
-    unfolding meant_of escape_of meant octals_at when◌then◌else◌
-    meant_escape e = rw (h, not_empty 92 h (lit< tt), e) (go (escaped (at s 1)))
-      where
-        go : (o : Option ℕ) → escape_of o ≡ meant_of (elim o [ none ↦ none | some b ↦ some (b, 2) ])
-        go none = refl
-        go (some b) = refl
 
 -- it is there, and takes some of the source
 data Ranged (s : List ℕ) : Option (ℕ × ℕ) → Type 0 where
@@ -113,25 +51,24 @@ ranged_some no_byte b n e = let z : ◌≡◌ {A = ℕ} 0 1 = cc in absurd (omeg
 ranged_some (byte x m h l) b n e = let p : ◌≡◌ {A = ℕ × ℕ} (x, m) (b, n) = cc in let q : m ≡ n = ap (λ (y : ℕ × ℕ). y.1) p in (omega arith, omega arith)
 
 -- what an answer of the code says of it
-pub told_byte : (s : List ℕ) (b n : ℕ) → Byte b n ≡ meant_of (meant s) → meant s ≡ some (b, n)
+pub told_byte : (s : List ℕ) (m : Meant) → Some m ≡ meant_of (meant s) → meant s ≡ some (m.byte, m.len)
 unfolding meant_of
-told_byte s b n e = go (meant s) refl
+told_byte s m e = go (meant s) refl
   where
-    go : (o : Option (ℕ × ℕ)) → meant s ≡ o → meant s ≡ some (b, n)
-    go none g = let f : Byte b n ≡ Bad = rw (g, meant_of) at e in let z : ◌≡◌ {A = ℕ} 0 1 = cc in absurd (omega arith)
-    go (some m) g =
-        let f : Byte b n ≡ Byte m.0 m.1 = rw (g, meant_of) at e in
-        let x : b ≡ m.0 = cc in
-        let y : n ≡ m.1 = cc in
-        g ∙ ap₂ (λ (x y : ℕ). some (x, y)) (sym x) (sym y)
+    go : (o : Option (ℕ × ℕ)) → meant s ≡ o → meant s ≡ some (m.byte, m.len)
+    go none g = let f : Some m ≡ None = rw (g, meant_of) at e in cc
+    go (some x) g =
+        let f : Some m ≡ Some (record { byte = x.0; len = x.1 }) = rw (g, meant_of) at e in
+        let q : m ≡ record { byte = x.0; len = x.1 } = cc in
+        g ∙ ap (λ (y : Meant). some (y.byte, y.len)) (sym q)
 
-pub told_bad : (s : List ℕ) → Bad ≡ meant_of (meant s) → meant s ≡ none
+pub told_bad : (s : List ℕ) → None ≡ meant_of (meant s) → meant s ≡ none
 unfolding meant_of
 told_bad s e = go (meant s) refl
   where
     go : (o : Option (ℕ × ℕ)) → meant s ≡ o → meant s ≡ none
     go none g = g
-    go (some m) g = let f : Bad ≡ Byte m.0 m.1 = rw (g, meant_of) at e in let z : ◌≡◌ {A = ℕ} 0 1 = cc in absurd (omega arith)
+    go (some x) g = let f : ◌≡◌ {A = Rust.Option Meant} None (Some (record { byte = x.0; len = x.1 })) = rw (g, meant_of) at e in cc
 
 -- ---- up to the closing quote
 
@@ -200,12 +137,16 @@ module _ (s : List ℕ) (i : ℕ) where
       no_quote : is "\"" (at (drop i s) 0) ≡ false
       no_quote = ne_eqb 34 (at (drop i s) 0) (λ e. n (sym front ∙ sym e))
 
-      pub quotes_bad : Bad ≡ meant_of (meant (drop i s)) → quotes (drop i s) ≡ none
-      quotes_bad e = one_more (drop i s) ∙ quoted_bad (length (drop i s)) (drop i s) no_quote (told_bad (drop i s) e)
+      -- the code decodes the part `&s[i..]`
+      pub quotes_bad : None ≡ meant_of (meant (take (length s - i) (drop i s))) → quotes (drop i s) ≡ none
+      quotes_bad e =
+          one_more (drop i s) ∙ quoted_bad (length (drop i s)) (drop i s) no_quote (told_bad (drop i s) (e ∙ ap (λ (t : List ℕ). meant_of (meant t)) (rest s i)))
 
-      pub quotes_more : (b k : ℕ) → Byte b k ≡ meant_of (meant (drop i s)) → (1 ≤ k) × (i + k ≤ length s) × (quotes (drop i s) ≡ more b k (quotes (drop (i + k) s)))
-      quotes_more b k e =
-          let g = told_byte (drop i s) b k e in
+      pub quotes_more : (m : Meant) → Some m ≡ meant_of (meant (take (length s - i) (drop i s))) → (1 ≤ m.len) × (i + m.len ≤ length s) × (quotes (drop i s) ≡ more m.byte m.len (quotes (drop (i + m.len) s)))
+      quotes_more m e =
+          let b = m.byte in
+          let k = m.len in
+          let g = told_byte (drop i s) m (e ∙ ap (λ (t : List ℕ). meant_of (meant t)) (rest s i)) in
           let r = ranged_some (ranged (drop i s)) b k g in (
             r.0,
             omega (arith, r.1, length-drop i s),
@@ -213,11 +154,20 @@ module _ (s : List ℕ) (i : ℕ) where
                 ∙ ap (more b k) (all_quotes (length (drop i s)) (drop k (drop i s)) (simp length-drop (omega arith)) ∙ ap quotes (drop-drop k i s)),
           )
 
+-- a string that is closed further on is not at its end
+pub closed_inside : (s : List ℕ) (i : ℕ) → is_closed (quotes (drop i s)) ≡ true → i < length s
+unfolding is_closed
+closed_inside s i e = go (ltb i (length s)) refl
+  where
+    go : (b : Bool) → ltb i (length s) ≡ b → i < length s
+    go true h = ltb-true i (length s) h
+    go false h = absurd (true≢false (sym e ∙ ap is_closed (quotes_end s i (ltb-false i (length s) h))))
+
 -- measured
 pub measured_more : (n i b k : ℕ) (o : Option (List ℕ × ℕ)) → quoted_of n i (more b k o) ≡ quoted_of (n + 1) (i + k) o
 unfolding quoted_of more
 measured_more n i b k none = refl
-measured_more n i b k (some r) = ap₂ Closed (omega arith) (omega arith)
+measured_more n i b k (some r) = ap₂ (λ (c e : ℕ). Some (record { count = c; end = e })) (omega arith) (omega arith)
 
 -- decoded
 pub decoded_more : (b k : ℕ) (o : Option (List ℕ × ℕ)) → is_closed (more b k o) ≡ true → (is_closed o ≡ true) × (text_in (more b k o) ≡ b ∷ text_in o)
@@ -233,21 +183,6 @@ next_of t u n b e = rw add-one (go t n e)
     go [] (suc n) e = let z : ◌≡◌ {A = ℕ} 0 1 = cc in absurd (omega arith)
     go (x ∷ t) zero e = let p : x ≡ b = cc in let q : t ≡ u = cc in (omega arith, p, q)
     go (x ∷ t) (suc n) e = let r = go t n e in (omega arith, r.1, r.2)
-
--- ---- escapes
-
--- the bytes that mean themselves after a backslash
-pub itself_is : (b x : ℕ) → b ≡ x → among "\\\"'" x ≡ true → Byte x 2 ≡ itself_of b
-unfolding itself_of when◌then◌else◌
-itself_is b x e f = rw (e, f)
-
-pub itself_escaped : (b : ℕ) → is "n" b ≡ false → is "t" b ≡ false → is "b" b ≡ false → is "r" b ≡ false → is "f" b ≡ false → itself_of b ≡ escape_of (escaped b)
-unfolding itself_of escape_of escaped when◌then◌else◌
-itself_escaped b n t v r f = rw (n, t, v, r, f, escaped) (go (among "\\\"'" b))
-  where
-    go : (c : Bool) → (when c then Byte b 2 else Bad) ≡ escape_of (when c then some b else none)
-    go true = refl
-    go false = refl
 
 -- ---- a turn that writes
 

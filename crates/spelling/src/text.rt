@@ -1,191 +1,86 @@
 // Strings: checked and measured, and decoded into a lent slice.
-ghost use Rattle.std.specs.Prelude.{◌≡◌, true, ◌&&◌, ◌++◌, ◌+◌, ◌-◌, ◌*◌, ◌≤◌, leb, length, take, drop};
-ghost use Rattle.paper.specs.Bytes.{at};
+ghost use Rattle.std.specs.Prelude.{◌≡◌, true, ◌+◌, ◌≤◌, length, drop};
 ghost use Rattle.paper.specs.Tokens.{escaped};
 ghost use Rattle.paper.specs.Scanner.{meant};
-ghost use Rattle.spelling.specs.Text.{meant_of, escape_of, octals_at, octal_value, quotes, quoted_of, is_closed, text_in, itself_of, put};
-
-use crate::byte_at;
-
-const ZERO: usize = 48;
-
-const THREE: usize = 51;
-
-const SEVEN: usize = 55;
+ghost use Rattle.spelling.specs.Text.{option_of, meant_of, quotes, quoted_of, is_closed, text_in, put};
 
 // A byte of a string as it is meant, and how many bytes of the source mean it.
-#[derive(Clone, Copy)]
-pub enum Meant {
-    Byte { byte: u8, len: usize },
-    Bad,
+#[derive(Clone, Copy, Debug, PartialEq, Eq)]
+struct Meant {
+    byte: u8,
+    len: usize,
 }
 
 // A string up to its closing quote: how many bytes it means, and where it ends.
-#[derive(Clone, Copy)]
-pub enum Quoted {
-    Closed { count: usize, end: usize },
-    Unclosed,
+#[derive(Clone, Copy, Debug, PartialEq, Eq)]
+pub struct Quoted {
+    pub count: usize,
+    pub end: usize,
 }
 
-// Whether a byte is a digit, at most the last.
-fn digit_to(b: usize, last: usize) -> bool
-    ensures { result ≡ (leb 48 b && leb b last) }
+// The byte that a backslash and this byte mean.
+fn escape(b: u8) -> Option<u8>
+    ensures { result ≡ option_of (escaped b) }
 {
-    if b < ZERO {
-        return false;
+    match b {
+        b'n' => Some(b'\n'),
+        b't' => Some(b'\t'),
+        b'b' => Some(8),
+        b'r' => Some(b'\r'),
+        b'f' => Some(12),
+        b'\\' | b'"' | b'\'' => Some(b),
+        _ => None,
     }
-    b <= last
-}
-
-// Whether three octal digits stand after the backslash, the first 0 to 3.
-fn octals(s: &[u8]) -> bool
-    ensures { result ≡ octals_at s.now }
-{
-    if !digit_to(byte_at(s, 1), THREE) {
-        return false;
-    }
-    if !digit_to(byte_at(s, 2), SEVEN) {
-        return false;
-    }
-    digit_to(byte_at(s, 3), SEVEN)
-}
-
-fn octal_byte(s: &[u8]) -> u8
-    requires { octals_at s.now ≡ true }
-    ensures { result ≡ octal_value s.now }
-{
-    let x = byte_at(s, 1) - ZERO;
-    let y = byte_at(s, 2) - ZERO;
-    let z = byte_at(s, 3) - ZERO;
-    (x * 64 + y * 8 + z) as u8
-}
-
-// A backslash and one byte.
-fn escape(b: usize) -> Meant
-    ensures { result ≡ escape_of (escaped b) }
-{
-    if b == 110 {
-        return Meant::Byte {
-            byte: b'\n',
-            len: 2,
-        };
-    }
-    if b == 116 {
-        return Meant::Byte {
-            byte: b'\t',
-            len: 2,
-        };
-    }
-    if b == 98 {
-        return Meant::Byte { byte: 8, len: 2 };
-    }
-    if b == 114 {
-        return Meant::Byte {
-            byte: b'\r',
-            len: 2,
-        };
-    }
-    if b == 102 {
-        return Meant::Byte { byte: 12, len: 2 };
-    }
-    itself(b)
-}
-
-// A backslash before a byte that means itself.
-fn itself(b: usize) -> Meant
-    ensures { result ≡ itself_of b }
-{
-    if b == 92 {
-        return Meant::Byte {
-            byte: b'\\',
-            len: 2,
-        };
-    }
-    if b == 34 {
-        return Meant::Byte { byte: b'"', len: 2 };
-    }
-    if b == 39 {
-        return Meant::Byte {
-            byte: b'\'',
-            len: 2,
-        };
-    }
-    Meant::Bad
 }
 
 // The byte that is meant at the front.
-fn decode_one(s: &[u8]) -> Meant
+fn decode_one(s: &[u8]) -> Option<Meant>
     ensures { result ≡ meant_of (meant s.now) }
 {
-    if s.len() == 0 {
-        return Meant::Bad;
-    }
-    let b = s[0];
-    if b == b'\n' {
-        return Meant::Bad;
-    }
-    if b == b'\r' {
-        return Meant::Bad;
-    }
-    if b != b'\\' {
-        return Meant::Byte { byte: b, len: 1 };
-    }
-    if octals(s) {
-        return Meant::Byte {
-            byte: octal_byte(s),
+    match s {
+        [] | [b'\n' | b'\r', ..] | [b'\\'] => None,
+        [b'\\', x @ b'0'..=b'3', y @ b'0'..=b'7', z @ b'0'..=b'7', ..] => Some(Meant {
+            byte: (x - b'0') * 64 + (y - b'0') * 8 + (z - b'0'),
             len: 4,
-        };
+        }),
+        [b'\\', b, ..] => Some(Meant {
+            byte: escape(*b)?,
+            len: 2,
+        }),
+        [b, ..] => Some(Meant { byte: *b, len: 1 }),
     }
-    escape(byte_at(s, 1))
 }
 
 // From a place up to the closing quote.
-pub fn measure(s: &[u8], from: usize) -> Quoted
+pub fn measure(s: &[u8], from: usize) -> Option<Quoted>
     ensures { result ≡ quoted_of 0 from (quotes (drop from s.now)) }
 {
-    let mut i = from;
-    let mut n: usize = 0;
-    while i < s.len() {
-        if s[i] == b'"' {
-            return Quoted::Closed {
-                count: n,
-                end: i + 1,
-            };
-        }
-        match decode_one(&s[i..]) {
-            Meant::Byte { byte: _, len } => {
-                i += len;
-                n += 1;
-            }
-            Meant::Bad => {
-                return Quoted::Unclosed;
-            }
-        }
+    let mut at = from;
+    let mut count = 0;
+    // How long a spelt byte is shows at each turn: there is no range to go over.
+    while *s.get(at)? != b'"' {
+        at += decode_one(&s[at..])?.len;
+        count += 1;
     }
-    Quoted::Unclosed
+    Some(Quoted { count, end: at + 1 })
 }
 
-// Writes what the string after the opening quote means, which is closed and fits.
+// Writes what the string after the opening quote means, which is closed and fits. Not one walk with `measure`:
+// a closure for what differs, with a contract over `quotes`, would be longer than these loops of five lines.
 pub(crate) fn write_text(s: &[u8], out: &mut [u8], at: usize)
-    requires s_value { is_closed (quotes (drop 1 s.now)) ≡ true }
-    requires s_in_bounds { at + length (text_in (quotes (drop 1 s.now))) ≤ length out.old }
+    requires closed { is_closed (quotes (drop 1 s.now)) ≡ true }
+    requires in_bounds { at + length (text_in (quotes (drop 1 s.now))) ≤ length out.old }
     ensures { out.new ≡ put at (text_in (quotes (drop 1 s.now))) out.old }
 {
-    let mut i: usize = 1;
-    let mut n: usize = 0;
-    while i < s.len() {
-        if s[i] == b'"' {
-            return;
-        }
-        match decode_one(&s[i..]) {
-            Meant::Byte { byte, len } => {
-                out[at + n] = byte;
-                i += len;
-                n += 1;
-            }
-            Meant::Bad => {
-                return;
-            }
-        }
+    let mut i = 1;
+    let mut n = at;
+    // Likewise.
+    while s[i] != b'"' {
+        let Some(Meant { byte, len }) = decode_one(&s[i..]) else {
+            return; // cannot be, since the string is closed
+        };
+        out[n] = byte;
+        i += len;
+        n += 1;
     }
 }

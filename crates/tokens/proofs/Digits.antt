@@ -15,9 +15,10 @@ use Rattle.paper.specs.Bytes.{at, is, among, when◌then◌else◌}
 use Rattle.paper.specs.Tokens.{digit, count, valued, in_range}
 use Rattle.paper.specs.Scanner.{span, digits_after, sign, whole, fraction, exponent}
 use Rattle.paper.specs.Layout.{complement}
-use Rattle.tokens.specs.declared.numbers.Amount.{Amount}
-use Rattle.tokens.specs.declared.numbers.Amount.TheVariants.{Fits, TooLarge}
-use Rattle.tokens.specs.Numbers.{Digits, number_len, amount_of, complement_of, integer_of}
+use Rattle.std.specs.Prelude.{Some, None, ◌%◌}
+use Rattle.std.specs.Prelude as Rust
+use Rattle.std.specs.Option.{option_map}
+use Rattle.tokens.specs.Numbers.{Digits, number_len, amount_of, integer_of}
 use Rattle.theorems.proofs.Laws.Rescan.{span_le}
 use Rattle.theorems.proofs.Laws.Answers.{if_case}
 use Rattle.theorems.proofs.Scanned.Classes.{and_left}
@@ -32,38 +33,10 @@ pub after_some : (n : ℕ) (s : List ℕ) (k : ℕ) → span digit (drop n s) �
 unfolding digits_after
 after_some n s k e = rw (e, digits_after)
 
--- what is past the digits from n on is digits-after, unless it is n
-pub after_end : (n e : ℕ) (s : List ℕ) → e ≡ n + span digit (drop n s) → (e ≡ n → ⊥) → e ≡ digits_after n s
-after_end n e s h f = go (span digit (drop n s)) refl
-  where
-    go : (k : ℕ) → span digit (drop n s) ≡ k → e ≡ digits_after n s
-    go zero q = absurd (f (omega arith))
-    go (suc k) q = let p : e ≡ n + suc k = omega arith in p ∙ after_some n s k q
-
-module _ (s : List ℕ) where
-  pub whole_minus : is "-" (at s 0) ≡ true → digits_after 1 s ≡ whole s
-  unfolding whole sign when◌then◌else◌
-  whole_minus e = rw e
-
-  pub whole_plain : is "-" (at s 0) ≡ false → digits_after 0 s ≡ whole s
-  unfolding whole sign when◌then◌else◌
-  whole_plain e = rw e
-
-  pub fraction_point : is "." (at s 0) ≡ true → digits_after 1 s ≡ fraction s
-  unfolding fraction when◌then◌else◌
-  fraction_point e = rw e
-
-  pub fraction_none : is "." (at s 0) ≡ false → 0 ≡ fraction s
-  unfolding fraction when◌then◌else◌
-  fraction_none e = rw e
-
-  pub exponent_some : among "eE" (at s 0) ≡ true → digits_after (1 + sign (among "+-") (at s 1)) s ≡ exponent s
-  unfolding exponent when◌then◌else◌
-  exponent_some e = rw e
-
-  pub exponent_none : among "eE" (at s 0) ≡ false → 0 ≡ exponent s
-  unfolding exponent when◌then◌else◌
-  exponent_none e = rw e
+-- the code's answer, where some stand there
+pub after_end : (n k : ℕ) (s : List ℕ) → k ≡ span digit (drop n s) → (k ≡ 0 → ⊥) → n + k ≡ digits_after n s
+after_end n zero s h f = absurd (f refl)
+after_end n (suc k) s h f = after_some n s k (sym h)
 
 -- ---- they lie within the source
 
@@ -85,10 +58,6 @@ fraction_le s = if_case (λ i. i ≤ length s) _ _ _ (λ _. digits_le 1 s) (λ _
 pub exponent_le : (s : List ℕ) → exponent s ≤ length s
 unfolding exponent
 exponent_le s = if_case (λ i. i ≤ length s) _ _ _ (λ _. digits_le (1 + sign (among "+-") (at s 1)) s) (λ _. omega arith)
-
-pub sign_le : (p : ℕ → Bool) (b : ℕ) → sign p b ≤ 1
-unfolding sign
-sign_le p b = if_case (λ i. i ≤ 1) _ _ _ (λ _. omega arith) (λ _. omega arith)
 
 pub number_le : (n : ℕ) (s : List ℕ) → n ≤ length s → (n ≤ number_len n s) × (number_len n s ≤ length s)
 unfolding number_len
@@ -117,29 +86,20 @@ pub count_end : (s : List ℕ) (v i n : ℕ) → length s ≤ i → n ≡ count 
 unfolding count
 count_end s v i n h e = e ∙ ap (count v) (drop_of_length-le s h)
 
-pub too_large : (limit v : ℕ) → limit < v → TooLarge ≡ amount_of limit v
+-- what is more than the limit is none; a value within it is one
+pub too_large : (limit v : ℕ) → limit < v → None ≡ amount_of limit v
 unfolding amount_of when◌then◌else◌
 too_large limit v h = simp (lt-leb v limit h)
 
-pub fits : (limit v : ℕ) → v ≤ limit → Fits v ≡ amount_of limit v
+pub fits : (limit v : ℕ) → v ≤ limit → Some v ≡ amount_of limit v
 unfolding amount_of when◌then◌else◌
 fits limit v h = simp (le-leb v limit h)
 
 -- ---- integers
 
-pub complement_zero : 0 ≡ complement_of 0
-unfolding complement_of complement
-complement_zero = refl
-
-pub complement_some : (v : ℕ) → (v ≡ 0 → ⊥) → 2 ^ 64 - v ≡ complement_of v
-unfolding complement_of complement
-complement_some zero h = absurd (h refl)
-complement_some (suc v) h = refl
-
--- an amount, with a minus before it
-abbrev pub minus : Amount → Amount
-minus (Fits v) = Fits (complement_of v)
-minus TooLarge = TooLarge
+-- the 64 bits of the number less than nothing by v
+abbrev pub minus : ℕ → ℕ
+minus v = complement (neg_ℤ (pos v))
 
 in_range_pos : (n : ℕ) → amount_of 9223372036854775807 n ≡ integer_of (pos n)
 unfolding integer_of complement in_range when◌then◌else◌
@@ -149,21 +109,21 @@ in_range_pos n = go (ltb n (2 ^ 63)) refl
     go true e = let h = ltb-true n (2 ^ 63) e in sym (fits 9223372036854775807 n (omega arith)) ∙ rw e
     go false e = let h = ltb-false n (2 ^ 63) e in sym (too_large 9223372036854775807 n (omega arith)) ∙ rw e
 
-in_range_neg : (v : ℕ) → minus (amount_of 9223372036854775808 v) ≡ integer_of (neg_ℤ (pos v))
-unfolding integer_of complement complement_of in_range when◌then◌else◌
-in_range_neg zero = ap minus (sym (fits 9223372036854775808 0 (omega arith)))
+in_range_neg : (v : ℕ) → option_map minus (amount_of 9223372036854775808 v) ≡ integer_of (neg_ℤ (pos v))
+unfolding integer_of complement in_range when◌then◌else◌
+in_range_neg zero = ap (option_map minus) (sym (fits 9223372036854775808 0 (omega arith)))
 in_range_neg (suc k) = go (ltb k (2 ^ 63)) refl
   where
-    go : (c : Bool) → ltb k (2 ^ 63) ≡ c → minus (amount_of 9223372036854775808 (suc k)) ≡ integer_of (negsuc k)
-    go true e = let h = ltb-true k (2 ^ 63) e in ap minus (sym (fits 9223372036854775808 (suc k) (omega arith))) ∙ rw e
-    go false e = let h = ltb-false k (2 ^ 63) e in ap minus (sym (too_large 9223372036854775808 (suc k) (omega arith))) ∙ rw e
+    go : (c : Bool) → ltb k (2 ^ 63) ≡ c → option_map minus (amount_of 9223372036854775808 (suc k)) ≡ integer_of (negsuc k)
+    go true e = let h = ltb-true k (2 ^ 63) e in ap (option_map minus) (sym (fits 9223372036854775808 (suc k) (omega arith))) ∙ rw e
+    go false e = let h = ltb-false k (2 ^ 63) e in ap (option_map minus) (sym (too_large 9223372036854775808 (suc k) (omega arith))) ∙ rw e
 
 module _ (s : List ℕ) where
   pub integer_plain : is "-" (at s 0) ≡ false → amount_of 9223372036854775807 (count 0 s) ≡ integer_of (valued s)
   unfolding valued when◌then◌else◌
   integer_plain e = rw e (in_range_pos (count 0 s))
 
-  pub integer_minus : is "-" (at s 0) ≡ true → minus (amount_of 9223372036854775808 (count 0 (drop 1 s))) ≡ integer_of (valued s)
+  pub integer_minus : is "-" (at s 0) ≡ true → option_map minus (amount_of 9223372036854775808 (count 0 (drop 1 s))) ≡ integer_of (valued s)
   unfolding valued when◌then◌else◌
   integer_minus e = rw e (in_range_neg (count 0 (drop 1 s)))
 
@@ -193,13 +153,19 @@ after_digits g n s e i l h = go (span digit (drop g s)) refl
         let d : get_or (drop g s) (i - g) 0 ≡ get_or s i 0 = get_or-drop g s (i - g) 0 ∙ ap (λ (j : ℕ). get_or s j 0) f in
         omega (arith, d, span_digits (drop g s) (i - g) (omega (arith, after_some g s k q)))
 
-pub whole_digits : (n : ℕ) (s : List ℕ) → n ≡ whole s → Digits (take n s) (sign (is "-") (at (take n s) 0))
+pub whole_digits : (n : ℕ) (s : List ℕ) → n ≡ whole s → Digits (drop (sign (is "-") (at (take n s) 0)) (take n s))
 unfolding whole
-whole_digits n s e i l h =
-    let m : i < n = omega (arith, length-take n s) in
+whole_digits n s e i h =
+    let g = sign (is "-") (at (take n s) 0) in
+    let m : g + i < n = omega (arith, length-take n s, length-drop g (take n s)) in
     let a : at (take n s) 0 ≡ at s 0 = get_or-take n s 0 256 (omega arith) in
-    let g : sign (is "-") (at (take n s) 0) ≡ sign (is "-") (at s 0) = ap (sign (is "-")) a in
-    omega (arith, get_or-take n s i 0 m, after_digits (sign (is "-") (at s 0)) n s e i (omega arith) m)
+    let f : g ≡ sign (is "-") (at s 0) = ap (sign (is "-")) a in
+    omega (
+      arith,
+      get_or-drop g (take n s) i 0,
+      get_or-take n s (g + i) 0 m,
+      after_digits (sign (is "-") (at s 0)) n s e (g + i) (omega arith) m,
+    )
 
 pub sign_none : (p : ℕ → Bool) (b : ℕ) → p b ≡ false → sign p b ≡ 0
 unfolding sign when◌then◌else◌
@@ -208,3 +174,18 @@ sign_none p b e = rw e
 pub sign_one : (p : ℕ → Bool) (b : ℕ) → p b ≡ true → sign p b ≡ 1
 unfolding sign when◌then◌else◌
 sign_one p b e = rw e
+
+-- an amount is within the limit
+pub amount_le : (limit n v : ℕ) → Some v ≡ amount_of limit n → v ≤ limit
+unfolding amount_of when◌then◌else◌
+amount_le limit n v e = go (leb n limit) refl
+  where
+    go : (c : Bool) → leb n limit ≡ c → v ≤ limit
+    go true h = let f : Some v ≡ Some n = rw h at e in let q : v ≡ n = cc in omega (arith, leb-true n limit h)
+    go false h = let f : ◌≡◌ {A = Rust.Option ℕ} (Some v) None = rw h at e in cc
+
+-- what wraps around to v's negation is its two's complement
+pub negated : (v r : ℕ) → v ≤ 9223372036854775808 → r < 18446744073709551616 → (r + v) % 18446744073709551616 ≡ 0 → r ≡ minus v
+unfolding complement
+negated zero r h l e = omega arith
+negated (suc v) r h l e = omega arith

@@ -2,8 +2,6 @@
 pub mod Table
 pub mod Classes
 pub mod Runs
-pub mod Skips
-pub mod Digits
 pub mod Words
 pub mod Fronts
 pub mod Shapes
@@ -11,3 +9,5 @@ pub mod Nexts
 pub mod Tests
 pub mod Told
 pub mod Determined
+pub mod Skips
+pub mod Digits

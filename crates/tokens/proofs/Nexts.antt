@@ -1,22 +1,18 @@
 -- The next token, wherever the rest of the source stands: what `next_token` answers, said of the paper's `next`. Assumes nothing.
-use mathlib.Core.Path.{◌≡◌, refl, sym, ap, ap₂, ◌∙◌}
-use mathlib.Core.List.{List}
-use Prim.Native.Nat.{ℕ, ◌+◌, ◌≤◌}
-use native.Mathlib.Omega.{arith}
-use lib.ListN.{length, drop}
-use Rattle.paper.specs.Answer.{ok, refused, ◌>>=◌}
+use Rattle.std.proofs.Common.{◌≡◌, ℕ, ◌+◌, ◌-◌, ◌≤◌, List, length, take, drop, Ok, Err, refl, sym, ap, ap₂, ◌∙◌, arith}
+use Rattle.std.specs.Prelude as Rust
+use Rattle.paper.specs.Answer.{Answer, ok, refused, ◌>>=◌}
 use Rattle.paper.specs.Tokens.{Here}
 use Rattle.paper.specs.Scanner.{Scanned, token, fault, scan, found, next, past}
-use Rattle.tokens.specs.declared.gaps.Skipped.TheVariants.{To, Open}
-use Rattle.tokens.specs.declared.Kind.{Kind}
+use Rattle.spelling.proofs.At.{rest}
 use Rattle.tokens.specs.declared.scan.Front.{Front}
-use Rattle.tokens.specs.declared.scan.Front.TheVariants.{Read, Fault}
-use Rattle.tokens.specs.declared.Token.TheVariants.{Found, Refused}
-use Rattle.tokens.specs.declared.Token as code
-use Rattle.tokens.specs.Gaps.{skip_of, skips}
-use Rattle.tokens.specs.Scans.{scan_of}
+use Rattle.tokens.specs.declared.Kind.{Kind}
+use Rattle.tokens.specs.Gaps.{place_of, skips}
+use Rattle.tokens.specs.Scans.{front_of}
 use Rattle.tokens.specs.Shown.{shown}
+use Rattle.tokens.specs.Kinds.{kind_of}
 use Rattle.tokens.proofs.Skips.{Ending, at_token, at_comment, ending}
+use Rattle.tokens.proofs.Fronts.{read}
 use Rattle.tokens.proofs.Shapes.{Shape, at_end, a_name, an_integer, a_decimal, a_string, a_mark, a_fault, shape}
 
 -- the rest s of the source, which stands at p
@@ -32,46 +28,77 @@ module _ (p : ℕ) (s : List ℕ) where
   unfolding next skips ◌>>=◌
   next_comment n q e = rw e
 
--- what the code's two steps say
-pub skipped_to : (s : List ℕ) (i : ℕ) → To i ≡ skip_of (skips 0 s) → (i ≤ length s) × (skips 0 s ≡ ok (from i (drop i s)))
-unfolding skip_of
+-- where the skipping ends
+pub skipped_to : (s : List ℕ) (i : ℕ) → ok i ≡ place_of (skips 0 s) → (i ≤ length s) × (skips 0 s ≡ ok (from i (drop i s)))
+unfolding place_of
 skipped_to s i e = go (ending s)
   where
     go : Ending s (λ p. skips p s) → (i ≤ length s) × (skips 0 s ≡ ok (from i (drop i s)))
     go (at_token j h k) =
-        let f : To i ≡ To (0 + j) = e ∙ ap skip_of (k 0) in
+        let f : ◌≡◌ {A = Answer ℕ} (ok i) (ok (0 + j)) = e ∙ ap place_of (k 0) in
         let q : i ≡ 0 + j = cc in
         let r : j ≡ i = omega arith in
         (omega arith, k 0 ∙ ap₂ (λ (x y : ℕ). ok (from x (drop y s))) (sym q) r)
-    go (at_comment j h k) = let f : To i ≡ Open (0 + j) = e ∙ ap skip_of (k 0) in let z : ◌≡◌ {A = ℕ} 0 1 = cc in absurd (omega arith)
+    go (at_comment j h k) = let f : ◌≡◌ {A = Answer ℕ} (ok i) (refused 2 (0 + j)) = e ∙ ap place_of (k 0) in cc
 
-pub skipped_open : (s : List ℕ) (i : ℕ) → Open i ≡ skip_of (skips 0 s) → skips 0 s ≡ refused 2 i
-unfolding skip_of
-skipped_open s i e = go (ending s)
+pub skipped_open : (s : List ℕ) (n i : ℕ) → refused n i ≡ place_of (skips 0 s) → skips 0 s ≡ refused n i
+unfolding place_of
+skipped_open s n i e = go (skips 0 s) refl
   where
-    go : Ending s (λ p. skips p s) → skips 0 s ≡ refused 2 i
-    go (at_token j h k) = let f : Open i ≡ To (0 + j) = e ∙ ap skip_of (k 0) in let z : ◌≡◌ {A = ℕ} 0 1 = cc in absurd (omega arith)
-    go (at_comment j h k) = let f : Open i ≡ Open (0 + j) = e ∙ ap skip_of (k 0) in let q : i ≡ 0 + j = cc in k 0 ∙ ap (refused 2) (sym q)
+    go : (a : Answer Here) → skips 0 s ≡ a → skips 0 s ≡ refused n i
+    go (ok h) k = let f : ◌≡◌ {A = Answer ℕ} (refused n i) (ok h.place) = e ∙ ap place_of k in cc
+    go (refused m j) k =
+        let f : ◌≡◌ {A = Answer ℕ} (refused n i) (refused m j) = e ∙ ap place_of k in
+        let x : m ≡ n = cc in
+        let y : j ≡ i = cc in
+        k ∙ ap₂ (λ (a b : ℕ). refused a b) x y
 
--- the token at the front of the rest from i on, as the answer of `next_token`
-abbrev pub placed : ℕ → Front → code.Token
-placed i (Read k n) = Found k i (i + n)
-placed i (Fault n) = Refused n i
+-- the token at the front of the part from i on, as the answer of `next_token`
+module _ (s : List ℕ) (i : ℕ) (e : ok i ≡ place_of (skips 0 s)) where
+  abbrev part : List ℕ
+  part = take (length s - i) (drop i s)
 
-pub placed_found : (i : ℕ) (s : List ℕ) (x : Scanned) → placed i (scan_of x) ≡ shown (found (from i s) x)
-unfolding scan_of shown found past
-placed_found i s (token t n) = refl
-placed_found i s (fault n) = refl
+  shown_at : shown (next (from 0 s)) ≡ shown (found (from i (drop i s)) (scan (drop i s)))
+  shown_at = ap shown (next_token 0 s (from i (drop i s)) (skipped_to s i e).1)
 
-pub read_within : (s : List ℕ) (k : Kind) (n : ℕ) → Read k n ≡ scan_of (scan s) → n ≤ length s
-unfolding scan_of
+  front : (x : Scanned) → scan (drop i s) ≡ x → front_of (scan part) ≡ front_of x
+  front x h = ap (λ (t : List ℕ). front_of (scan t)) (rest s i) ∙ ap front_of h
+
+  pub next_read : (f : Front) → Ok f ≡ front_of (scan part) → ok (record { kind = f.kind; at = i; end = i + f.len }) ≡ shown (next (from 0 s))
+  unfolding front_of shown found past
+  next_read f h = go (scan (drop i s)) refl
+    where
+      go : (x : Scanned) → scan (drop i s) ≡ x → ok (record { kind = f.kind; at = i; end = i + f.len }) ≡ shown (next (from 0 s))
+      go (token t n) q =
+          let r : ◌≡◌ {A = Rust.Result Front ℕ} (Ok f) (Ok (record { kind = kind_of t; len = n })) = h ∙ front (token t n) q in
+          let g : f ≡ record { kind = kind_of t; len = n } = cc in
+          ap (λ (x : Front). ok (record { kind = x.kind; at = i; end = i + x.len })) g ∙ sym (shown_at ∙ ap (λ (x : Scanned). shown (found (from i (drop i s)) x)) q)
+      go (fault n) q = let r : ◌≡◌ {A = Rust.Result Front ℕ} (Ok f) (Err n) = h ∙ front (fault n) q in cc
+
+  pub next_fault : (n : ℕ) → Err n ≡ front_of (scan part) → refused n i ≡ shown (next (from 0 s))
+  unfolding front_of shown found past
+  next_fault n h = go (scan (drop i s)) refl
+    where
+      go : (x : Scanned) → scan (drop i s) ≡ x → refused n i ≡ shown (next (from 0 s))
+      go (token t m) q = let r : ◌≡◌ {A = Rust.Result Front ℕ} (Err n) (Ok (record { kind = kind_of t; len = m })) = h ∙ front (token t m) q in cc
+      go (fault m) q =
+          let r : ◌≡◌ {A = Rust.Result Front ℕ} (Err n) (Err m) = h ∙ front (fault m) q in
+          let g : n ≡ m = cc in
+          ap (λ (x : ℕ). refused x i) g ∙ sym (shown_at ∙ ap (λ (x : Scanned). shown (found (from i (drop i s)) x)) q)
+
+pub read_within : (s : List ℕ) (k : Kind) (n : ℕ) → read k n ≡ front_of (scan s) → n ≤ length s
+unfolding front_of
 read_within s k n e = go (shape s) e
   where
-    go : {x : Scanned} → Shape s x → Read k n ≡ scan_of x → n ≤ length s
-    go (at_end h) e = let q : n ≡ 0 = cc in omega arith
-    go (a_name m h l f) e = let q : n ≡ m = cc in omega arith
-    go (an_integer m h l f) e = let q : n ≡ m = cc in omega arith
-    go (a_decimal m h l f) e = let q : n ≡ m = cc in omega arith
-    go (a_string t m h l f) e = let q : n ≡ m = cc in omega arith
-    go (a_mark h) e = let q : n ≡ 1 = cc in omega arith
-    go (a_fault m) e = let z : ◌≡◌ {A = ℕ} 0 1 = cc in absurd (omega arith)
+    len : Rust.Result Front ℕ → ℕ
+    len (Ok f) = f.len
+    len (Err m) = 0
+
+    go : {x : Scanned} → Shape s x → read k n ≡ front_of x → n ≤ length s
+    go (at_end h) e = omega (arith, ap len e)
+    go (a_name m h l f) e = omega (arith, ap len e)
+    go (an_integer m h l f) e = omega (arith, ap len e)
+    go (a_decimal m h l f) e = omega (arith, ap len e)
+    go (a_string t m h l f) e = omega (arith, ap len e)
+    go (a_mark h) e = omega (arith, ap len e)
+    go (a_fault m) e = let f : ◌≡◌ {A = Rust.Result Front ℕ} (read k n) (Err m) = e in cc

@@ -17,7 +17,7 @@ use Rattle.theorems.proofs.Laws.Rescan.{span_le}
 use Rattle.theorems.proofs.Scanned.Classes.{or_left}
 use Rattle.tokens.specs.Numbers.{number_len}
 use Rattle.spelling.proofs.At.{at_in}
-use Rattle.tokens.proofs.Runs.{span_step}
+use Rattle.tokens.proofs.Runs.{span_some}
 use Rattle.tokens.proofs.Digits.{whole_le, number_le}
 use Rattle.spelling.proofs.Strings.{quoted_within}
 
@@ -44,7 +44,7 @@ unfolding goes_on
 name_some s e f =
     let h = empty_not s e in
     let g : goes_on (get_or s 0 0) ≡ true = ap goes_on (at_in s 0 h) ∙ rw f in
-    omega (arith, span_step goes_on s 0 h g)
+    span_some goes_on s h g
 
 text_shape : (s : List ℕ) (o : Option (List ℕ × ℕ)) → quoted (length s) (drop 1 s) ≡ o → 1 ≤ length s → Shape s (text o)
 unfolding text

@@ -6,60 +6,87 @@ use mathlib.Core.Option.{Option, none, some}
 use Prim.Native.Nat.{ℕ, zero, suc, ◌+◌, ◌-◌, ◌≤◌, ◌<◌}
 use native.Mathlib.Numerals.{add-one}
 use native.Mathlib.Omega.{arith}
-use lib.ListN.{length, drop, get_or, drop_of_length-le, length-drop}
+use lib.ListN.{length, take, drop, get_or, drop_of_length-le, length-drop}
 use lib.Seq.{drop-cons, drop-drop}
 use lib.Dec.{eqb, lit<}
+use lib.Pointwise.{pointwise}
+use Rattle.std.specs.List.{starts_with}
+use Rattle.std.proofs.lemmas.Grind.{common_steps}
 use borrow.Author.Tests.{eqb-true}
-use Rattle.theorems.proofs.Scanned.Classes.{and_right}
+use Rattle.theorems.proofs.Scanned.Classes.{and_left, and_right}
 use Rattle.theorems.proofs.Laws.Rescan.{span_le}
 use Rattle.paper.specs.Bytes.{at, is, when◌then◌else◌}
 use Rattle.paper.specs.Answer.{Answer, ok, refused}
 use Rattle.paper.specs.Tokens.{blank, Here}
 use Rattle.paper.specs.Scanner.{span, closing, gap, skip, past}
-use Rattle.tokens.specs.declared.gaps.Ends.TheVariants.{At, Never}
-use Rattle.tokens.specs.declared.gaps.Skipped.TheVariants.{To, Open}
-use Rattle.tokens.specs.Gaps.{end_of, skip_of, skips}
-use Rattle.spelling.proofs.At.{at_in, at_drop, there, class_there}
+use Rattle.std.specs.Prelude.{Some, None}
+use Rattle.std.specs.Prelude as Rust
+use Rattle.spelling.specs.Text.{option_of}
+use Rattle.tokens.specs.Gaps.{skips}
+use Rattle.spelling.proofs.At.{rest, there, class_there}
 
--- `*/` stands at i
-abbrev pub close_at : List ℕ → ℕ → Bool
-close_at s i = is "*" (at s i) && is "/" (at s (i + 1))
+-- what the code says of a length, i bytes further on
+abbrev pub later : ℕ → Option ℕ → Rust.Option ℕ
+later i none = None
+later i (some n) = Some (i + n)
+
+pub later_zero : (o : Option ℕ) → option_of o ≡ later 0 o
+unfolding option_of
+later_zero none = refl
+later_zero (some n) = ap Some (omega arith)
+
+-- two bytes stand at the front
+abbrev pub two : ℕ → ℕ → List ℕ → Bool
+two a b s = eqb a (at s 0) && eqb b (at s 1)
+
+-- as the code finds them
+pub two_is : (a b : ℕ) → a < 256 → b < 256 → (s : List ℕ) → starts_with eqb s (a ∷ b ∷ []) ≡ two a b s
+two_is a b h l [] = grind (arith, common_steps)
+two_is a b h l (x ∷ []) = grind (arith, common_steps)
+two_is a b h l (x ∷ y ∷ s) = grind (arith, common_steps)
+
+pub two_front : (a b : ℕ) → a < 256 → b < 256 → (s : List ℕ) → pointwise eqb (take 2 s) (a ∷ b ∷ []) ≡ two a b s
+two_front a b h l [] = grind (arith, common_steps)
+two_front a b h l (x ∷ []) = grind (arith, common_steps)
+two_front a b h l (x ∷ y ∷ s) = grind (arith, common_steps)
+
+-- `*/`
+abbrev pub closes : List ℕ → Bool
+closes = two 42 47
+
+-- what the code finds of it in the part `&s[i..]`
+pub closes_is : (s : List ℕ) (i : ℕ) → starts_with eqb (take (length s - i) (drop i s)) (42 ∷ 47 ∷ []) ≡ closes (drop i s)
+closes_is s i = ap (λ (t : List ℕ). starts_with eqb t (42 ∷ 47 ∷ [])) (rest s i) ∙ two_is 42 47 (lit< tt) (lit< tt) (drop i s)
 
 -- the `*/` here, and one further on
 closed : (b : ℕ) (t : List ℕ) → (is "*" b && is "/" (at t 0)) ≡ true → closing (b ∷ t) ≡ some 2
 unfolding closing
 closed b t e = rw (e, closing)
 
-closed_later : (b : ℕ) (t : List ℕ) (i : ℕ) → (is "*" b && is "/" (at t 0)) ≡ false → end_of i (closing (b ∷ t)) ≡ end_of (i + 1) (closing t)
-unfolding closing end_of
+closed_later : (b : ℕ) (t : List ℕ) (i : ℕ) → (is "*" b && is "/" (at t 0)) ≡ false → later i (closing (b ∷ t)) ≡ later (i + 1) (closing t)
+unfolding closing
 closed_later b t i e = rw (e, closing) (go (closing t))
   where
-    go : (o : Option ℕ) → end_of i (elim o [ none ↦ none | some n ↦ some (suc n) ]) ≡ end_of (i + 1) o
+    go : (o : Option ℕ) → later i (elim o [ none ↦ none | some n ↦ some (suc n) ]) ≡ later (i + 1) o
     go none = refl
-    go (some n) = ap At (omega arith)
+    go (some n) = ap Some (omega arith)
 
 module _ (s : List ℕ) (i : ℕ) where
-  same_close : i < length s → (is "*" (get_or s i 0) && is "/" (at (drop (i + 1) s) 0)) ≡ close_at s i
-  same_close h =
-      let f : at (drop (i + 1) s) 0 ≡ at s (i + 1) = at_drop s (i + 1) 0 ∙ ap (at s) (omega arith) in
-      ap₂ (λ (x y : ℕ). is "*" x && is "/" y) (at_in s i h) f
-
   cut : i < length s → drop i s ≡ get_or s i 0 ∷ drop (i + 1) s
   cut h = rw (add-one, drop-cons s i 0 h)
 
-  pub closing_here : i < length s → close_at s i ≡ true → At (i + 2) ≡ end_of i (closing (drop i s))
-  unfolding end_of
-  closing_here h e = ap (end_of i) (sym (ap closing (cut h) ∙ closed (get_or s i 0) (drop (i + 1) s) (same_close h ∙ e)))
+  same_close : (h : i < length s) → (is "*" (get_or s i 0) && is "/" (at (drop (i + 1) s) 0)) ≡ closes (drop i s)
+  same_close h = sym (ap closes (cut h))
 
-  pub closing_later : i < length s → close_at s i ≡ false → end_of i (closing (drop i s)) ≡ end_of (i + 1) (closing (drop (i + 1) s))
-  closing_later h e = ap (λ (l : List ℕ). end_of i (closing l)) (cut h) ∙ closed_later (get_or s i 0) (drop (i + 1) s) i (same_close h ∙ e)
+  pub closing_here : i < length s → closes (drop i s) ≡ true → Some (i + 2) ≡ later i (closing (drop i s))
+  closing_here h e = ap (later i) (sym (ap closing (cut h) ∙ closed (get_or s i 0) (drop (i + 1) s) (same_close h ∙ e)))
 
-  pub closing_never : length s ≤ i → Never ≡ end_of i (closing (drop i s))
-  unfolding end_of closing
+  pub closing_later : i < length s → closes (drop i s) ≡ false → later i (closing (drop i s)) ≡ later (i + 1) (closing (drop (i + 1) s))
+  closing_later h e = ap (λ (l : List ℕ). later i (closing l)) (cut h) ∙ closed_later (get_or s i 0) (drop (i + 1) s) i (same_close h ∙ e)
+
+  pub closing_never : length s ≤ i → None ≡ later i (closing (drop i s))
+  unfolding closing
   closing_never h = rw (drop_of_length-le s h)
-
-  pub close_next : close_at s i ≡ true → i + 1 < length s
-  close_next e = there s (i + 1) 47 (sym (eqb-true 47 (at s (i + 1)) (and_right (is "*" (at s i)) (is "/" (at s (i + 1))) e))) (lit< tt)
 
 -- ---- the gap at the front
 
@@ -71,7 +98,7 @@ abbrev no_LF : ℕ → Bool
 no_LF b = not (is "\n" b)
 
 module _ (s : List ℕ) where
-  gap_blank : blank (at s 0) ≡ true → gap s ≡ some 1
+  pub gap_blank : blank (at s 0) ≡ true → gap s ≡ some 1
   unfolding gap when◌then◌else◌
   gap_blank e = rw e
 
@@ -91,45 +118,33 @@ module _ (s : List ℕ) where
   unfolding gap when◌then◌else◌
   gap_slash e f g h = rw (e, f, g, h)
 
--- at the place i of s
-module _ (s : List ℕ) (i : ℕ) where
-  here : at (drop i s) 0 ≡ at s i
-  here = at_drop s i 0 ∙ ap (at s) (omega arith)
+-- as the code's tests say
+module _ (s : List ℕ) where
+  slash : (b : ℕ) → two 47 b s ≡ true → (at s 0 ≡ 47) × (at s 1 ≡ b)
+  slash b e = (sym (eqb-true 47 (at s 0) (and_left _ _ e)), sym (eqb-true b (at s 1) (and_right (eqb 47 (at s 0)) _ e)))
 
-  after : at (drop i s) 1 ≡ at s (i + 1)
-  after = at_drop s i 1
+  pub line_here : two 47 47 s ≡ true → gap s ≡ some (2 + span no_LF (drop 2 s))
+  unfolding blank
+  line_here e = let f = slash 47 e in gap_line s (ap blank f.0) (ap (λ b. is "/" b) f.0) (ap (λ b. is "/" b) f.1)
 
-  pub ends_blank : blank (at s i) ≡ true → At (i + 1) ≡ end_of i (gap (drop i s))
-  unfolding end_of
-  ends_blank e = ap (end_of i) (sym (gap_blank (drop i s) (ap blank here ∙ e)))
+  pub comment_here : two 47 42 s ≡ true → gap s ≡ elim (closing (drop 2 s)) [ none ↦ none | some n ↦ some (2 + n) ]
+  unfolding blank
+  comment_here e = let f = slash 42 e in gap_comment s (ap blank f.0) (ap (λ b. is "/" b) f.0) (ap (λ b. is "/" b) f.1) (ap (λ b. is "*" b) f.1)
 
-  pub ends_plain : blank (at s i) ≡ false → is "/" (at s i) ≡ false → At i ≡ end_of i (gap (drop i s))
-  unfolding end_of
-  ends_plain e f = ap At (omega arith) ∙ ap (end_of i) (sym (gap_plain (drop i s) (ap blank here ∙ e) (ap (λ b. is "/" b) here ∙ f)))
+  pub no_gap : two 47 47 s ≡ false → two 47 42 s ≡ false → blank (at s 0) ≡ false → gap s ≡ some 0
+  unfolding gap when◌then◌else◌
+  no_gap e f g = rw (g, e, f)
 
-  module _ (e : blank (at s i) ≡ false) (f : is "/" (at s i) ≡ true) where
-    pub ends_line : is "/" (at s (i + 1)) ≡ true → At (i + 2 + span no_LF (drop (i + 2) s)) ≡ end_of i (gap (drop i s))
-    unfolding end_of
-    ends_line g =
-        let n : i + 2 + span no_LF (drop (i + 2) s) ≡ i + (2 + span no_LF (drop 2 (drop i s))) = rw (drop-drop 2 i s) (omega arith) in
-        ap At n ∙ ap (end_of i) (sym (gap_line (drop i s) (ap blank here ∙ e) (ap (λ b. is "/" b) here ∙ f) (ap (λ b. is "/" b) after ∙ g)))
+-- a comment, after the two bytes that begin it
+pub comment_more : (o : Option ℕ) → (n : ℕ) → Some n ≡ option_of o → Some (2 + n) ≡ option_of (elim o [ none ↦ none | some n ↦ some (2 + n) ])
+unfolding option_of
+comment_more none n e = cc
+comment_more (some m) n e = let q : n ≡ m = cc in ap (λ (k : ℕ). Some (2 + k)) q
 
-    pub ends_comment : is "/" (at s (i + 1)) ≡ false → is "*" (at s (i + 1)) ≡ true → end_of (i + 2) (closing (drop (i + 2) s)) ≡ end_of i (gap (drop i s))
-    unfolding end_of
-    ends_comment g h =
-        go (closing (drop (i + 2) s))
-        ∙ ap (λ (l : List ℕ). end_of i (elim (closing l) [ none ↦ none | some n ↦ some (2 + n) ])) (sym (drop-drop 2 i s))
-        ∙ ap (end_of i) (sym (gap_comment (drop i s) (ap blank here ∙ e) (ap (λ b. is "/" b) here ∙ f) (ap (λ b. is "/" b) after ∙ g) (ap (λ b. is "*" b) after ∙ h)))
-      where
-        go : (o : Option ℕ) → end_of (i + 2) o ≡ end_of i (elim o [ none ↦ none | some n ↦ some (2 + n) ])
-        go none = refl
-        go (some n) = ap At (omega arith)
-
-    pub ends_slash : is "/" (at s (i + 1)) ≡ false → is "*" (at s (i + 1)) ≡ false → At i ≡ end_of i (gap (drop i s))
-    unfolding end_of
-    ends_slash g h =
-        ap At (omega arith)
-        ∙ ap (end_of i) (sym (gap_slash (drop i s) (ap blank here ∙ e) (ap (λ b. is "/" b) here ∙ f) (ap (λ b. is "/" b) after ∙ g) (ap (λ b. is "*" b) after ∙ h)))
+pub comment_open : (o : Option ℕ) → None ≡ option_of o → None ≡ option_of (elim o [ none ↦ none | some n ↦ some (2 + n) ])
+unfolding option_of
+comment_open none e = refl
+comment_open (some m) e = cc
 
 -- ---- a gap lies within the source
 
@@ -149,6 +164,14 @@ closing_le (b ∷ s) n e = go (is "*" b && is "/" (at s 0)) refl (closing s) ref
         let f : some (suc m) ≡ some n = rw (i, h, closing) at e in
         let q : suc m ≡ n = cc in
         let k = again m h in omega arith
+
+pub comment_le : (s : List ℕ) (n : ℕ) → Some n ≡ option_of (closing s) → n ≤ length s
+unfolding option_of
+comment_le s n e = go (closing s) refl e
+  where
+    go : (o : Option ℕ) → closing s ≡ o → Some n ≡ option_of o → n ≤ length s
+    go none h e = cc
+    go (some m) h e = let q : n ≡ m = cc in omega (arith, closing_le s m h)
 
 -- what is skipped at the front, and that it is there
 data Gap (s : List ℕ) : Option ℕ → Type 0 where
@@ -267,42 +290,37 @@ ending s = ending_from (length s) s (omega arith)
 
 -- ---- one turn of the loop that skips, at i
 
+-- what the code answers of the part `&s[i..]`
+abbrev pub gap_at : List ℕ → ℕ → Rust.Option ℕ
+gap_at s i = option_of (gap (take (length s - i) (drop i s)))
+
 module _ (s : List ℕ) (i : ℕ) where
-  told_at : (e : ℕ) → At e ≡ end_of i (gap (drop i s)) → (o : Option ℕ) → gap (drop i s) ≡ o → (i ≤ e) × (gap (drop i s) ≡ some (e - i))
-  unfolding end_of
-  told_at e h none g = let f : At e ≡ Never = rw (g, end_of) at h in let z : ◌≡◌ {A = ℕ} 0 1 = cc in absurd (omega arith)
-  told_at e h (some n) g =
-      let f : At e ≡ At (i + n) = rw (g, end_of) at h in
-      let q : e ≡ i + n = cc in
-      let k : n ≡ e - i = omega arith in (omega arith, g ∙ ap some k)
+  told_some : (n : ℕ) → Some n ≡ gap_at s i → gap (drop i s) ≡ some n
+  unfolding option_of
+  told_some n h = go (gap (drop i s)) (h ∙ ap (λ (l : List ℕ). option_of (gap l)) (rest s i))
+    where
+      go : (o : Option ℕ) → Some n ≡ option_of o → o ≡ some n
+      go none e = cc
+      go (some m) e = let q : n ≡ m = cc in ap some (sym q)
 
-  told_never : Never ≡ end_of i (gap (drop i s)) → (o : Option ℕ) → gap (drop i s) ≡ o → gap (drop i s) ≡ none
-  unfolding end_of
-  told_never h none g = g
-  told_never h (some n) g = let f : Never ≡ At (i + n) = rw (g, end_of) at h in let z : ◌≡◌ {A = ℕ} 0 1 = cc in absurd (omega arith)
+  told_none : None ≡ gap_at s i → gap (drop i s) ≡ none
+  unfolding option_of
+  told_none h = go (gap (drop i s)) (h ∙ ap (λ (l : List ℕ). option_of (gap l)) (rest s i))
+    where
+      go : (o : Option ℕ) → None ≡ option_of o → o ≡ none
+      go none e = refl
+      go (some m) e = cc
 
-  pub stops : (e : ℕ) → At e ≡ end_of i (gap (drop i s)) → e ≡ i → To i ≡ skip_of (skips i (drop i s))
-  unfolding skip_of
-  stops e h q =
-      let k : e - i ≡ 0 = omega arith in
-      ap skip_of (sym (skips_stop i (drop i s) ((told_at e h (gap (drop i s)) refl).1 ∙ ap some k)))
+  pub stops : Some 0 ≡ gap_at s i → skips i (drop i s) ≡ ok (from i (drop i s))
+  stops e = skips_stop i (drop i s) (told_some 0 e)
 
-  pub goes : (e : ℕ) → At e ≡ end_of i (gap (drop i s)) → (e ≡ i → ⊥) → i ≤ length s → (i < e) × (e ≤ length s) × (skips i (drop i s) ≡ skips e (drop e s))
-  goes e h q l =
-      let g = told_at e h (gap (drop i s)) refl in
-      let m : i < e = omega (arith, g.0) in
-      let k : e - i ≡ suc (e - i - 1) = omega arith in
-      let p : i + suc (e - i - 1) ≡ e = omega arith in (
-        m,
-        omega (arith, gap_le (drop i s) (e - i) g.1, length-drop i s),
-        skips_on i (drop i s) (e - i - 1) (g.1 ∙ ap some k)
-            ∙ ap₂ (λ (q : ℕ) (t : List ℕ). skips q t) p (drop-drop (suc (e - i - 1)) i s ∙ ap (λ (q : ℕ). drop q s) p),
+  pub goes : (n : ℕ) → Some n ≡ gap_at s i → (n ≡ 0 → ⊥) → i ≤ length s → (i + n ≤ length s) × (skips i (drop i s) ≡ skips (i + n) (drop (i + n) s))
+  goes zero e h l = absurd (h refl)
+  goes (suc n) e h l =
+      let g = told_some (suc n) e in (
+        omega (arith, gap_le (drop i s) (suc n) g, length-drop i s),
+        skips_on i (drop i s) n g ∙ ap (skips (i + suc n)) (drop-drop (suc n) i s),
       )
 
-  pub opens : Never ≡ end_of i (gap (drop i s)) → Open i ≡ skip_of (skips i (drop i s))
-  unfolding skip_of
-  opens h = ap skip_of (sym (skips_open i (drop i s) (told_never h (gap (drop i s)) refl)))
-
-  pub ends_at : length s ≤ i → To i ≡ skip_of (skips i (drop i s))
-  unfolding skip_of gap blank when◌then◌else◌
-  ends_at l = ap skip_of (sym (skips_stop i (drop i s) (ap gap (drop_of_length-le s l))))
+  pub opens : None ≡ gap_at s i → skips i (drop i s) ≡ refused 2 i
+  opens e = skips_open i (drop i s) (told_none e)

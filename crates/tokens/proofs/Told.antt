@@ -1,14 +1,14 @@
 -- For callers of `next_token`: from its answer at `&src[p..]` to the paper's `next` at the place p of the source. Assumes nothing.
 use mathlib.Core.Path.{◌≡◌, refl, sym, ap, ap₂, ◌∙◌, subst}
-use mathlib.Core.Bool.{Bool, true, false, not, ◌||◌, false≢true}
+use mathlib.Core.Bool.{Bool, true, false, not, false≢true}
 use mathlib.Core.List.{List, [], ◌∷◌}
-use Prim.Native.Nat.{ℕ, zero, suc, ◌+◌, ◌-◌, ◌≤◌, ◌<◌}
+use Prim.Native.Nat.{ℕ, ◌+◌, ◌-◌, ◌≤◌, ◌<◌}
 use Prim.Native.Char.{Char}
 use Prim.Native.String.{String}
 use native.Mathlib.Omega.{arith}
-use lib.ListN.{length, take, drop, get_or, length-drop}
+use lib.ListN.{length, take, drop, length-drop}
 use lib.Seq.{drop-drop, length-take-le}
-use lib.Dec.{eqb}
+use mathlib.Core.List.{map}
 use borrow.Author.Tests.{le-leb}
 use Rattle.paper.specs.Bytes.{bytes, at, is, same, when◌then◌else◌}
 use Rattle.paper.specs.Answer.{Answer, ok, refused}
@@ -20,14 +20,14 @@ use Rattle.paper.specs.Layout.{complement}
 use Rattle.theorems.proofs.Scanned.Classes.{or_left, or_right}
 use Rattle.tokens.specs.declared.Kind.{Kind}
 use Rattle.tokens.specs.declared.Kind.TheVariants.{Name, Word, Integer, Decimal, Text, Mark, End}
-use Rattle.tokens.specs.declared.Token.TheVariants.{Found, Refused}
+use Rattle.tokens.specs.declared.names.Word as code_word
+use Rattle.tokens.specs.declared.names.Word.TheVariants.{Extends, Data, Null, True, False, Root, Parent, This, Attrib, Lazy, Host, Process, Property, Iproperty}
 use Rattle.tokens.specs.declared.Token as code
-use Rattle.tokens.specs.Kinds.{word_from, literal_kind, kind_of}
+use Rattle.tokens.specs.Kinds.{spelling, words, named, literal_kind, kind_of}
 use Rattle.tokens.specs.Gaps.{skips}
 use Rattle.tokens.specs.Shown.{shown}
 use Rattle.spelling.specs.Spelt.{part_of, string_of, text_of}
-use Rattle.tokens.proofs.Table.{agree, agreed, every, entry}
-use Rattle.tokens.proofs.Words.{same_eq, eq_same}
+use Rattle.tokens.proofs.Words.{same_eq, reserved_are}
 use Rattle.tokens.proofs.Skips.{Ending, at_token, at_comment, ending}
 use Rattle.tokens.proofs.Shapes.{Shape, at_end, a_name, an_integer, a_decimal, a_string, a_mark, a_fault, shape}
 use Rattle.spelling.proofs.At.{rest}
@@ -81,10 +81,9 @@ pub record ToldName (src : List ℕ) (p a e : ℕ) : Type 0 where
   pub short : e - a ≤ 255
   pub plain : member (part src p a e) reserved ≡ false
 
-pub record ToldWord (src : List ℕ) (p a e i : ℕ) : Type 0 where
-  pub stands : Stands src p a e (name (get_or reserved i []))
+pub record ToldWord (src : List ℕ) (p a e : ℕ) (w : code_word.Word) : Type 0 where
+  pub stands : Stands src p a e (name (spelling w))
   pub some : a < e
-  pub place : i < 14
 
 pub record ToldInteger (src : List ℕ) (p a e v : ℕ) : Type 0 where
   pub stands : Stands src p a e (literal (integer (valued (part src p a e))))
@@ -117,38 +116,38 @@ pub record ToldRefusal (src : List ℕ) (p n a : ℕ) : Type 0 where
   pub is : next (here src p) ≡ refused n (p + a)
   pub within : p + a ≤ length src
 
-abbrev pub Told : List ℕ → ℕ → code.Token → Type 0
-Told src p (Found Name a e) = ToldName src p a e
-Told src p (Found (Word i) a e) = ToldWord src p a e i
-Told src p (Found (Integer v) a e) = ToldInteger src p a e v
-Told src p (Found Decimal a e) = ToldDecimal src p a e
-Told src p (Found (Text n) a e) = ToldText src p a e n
-Told src p (Found (Mark b) a e) = ToldMark src p a e b
-Told src p (Found End a e) = ToldEnd src p a e
-Told src p (Refused n a) = ToldRefusal src p n a
+-- by the kind of a token that is found
+abbrev pub ToldKind : List ℕ → ℕ → ℕ → ℕ → Kind → Type 0
+ToldKind src p a e Name = ToldName src p a e
+ToldKind src p a e (Word w) = ToldWord src p a e w
+ToldKind src p a e (Integer v) = ToldInteger src p a e v
+ToldKind src p a e Decimal = ToldDecimal src p a e
+ToldKind src p a e (Text n) = ToldText src p a e n
+ToldKind src p a e (Mark b) = ToldMark src p a e b
+ToldKind src p a e End = ToldEnd src p a e
+
+abbrev pub Told : List ℕ → ℕ → Answer code.Token → Type 0
+Told src p (ok t) = ToldKind src p t.at t.end t.kind
+Told src p (refused n a) = ToldRefusal src p n a
 
 -- ---- a name is a word of the list, or none
 
-data Worded (n : List ℕ) (ws : List (List ℕ)) (j : ℕ) : Kind → Type 0 where
-  no_word : member n ws ≡ false → Worded n ws j Name
-  the_word : (i : ℕ) → i < length ws → n ≡ get_or ws i [] → Worded n ws j (Word (j + i))
+data Worded (n : List ℕ) (ws : List code_word.Word) : Kind → Type 0 where
+  no_word : member n (map spelling ws) ≡ false → Worded n ws Name
+  the_word : (w : code_word.Word) → n ≡ spelling w → Worded n ws (Word w)
 
-worded : (n : List ℕ) (ws : List (List ℕ)) (j : ℕ) → Worded n ws j (word_from j n ws)
-unfolding word_from member
-worded n [] j = no_word refl
-worded n (w ∷ ws) j = go (same n w) refl (worded n ws (suc j))
+worded : (n : List ℕ) (ws : List code_word.Word) → Worded n ws (named ws n)
+unfolding named member when◌then◌else◌
+worded n [] = no_word refl
+worded n (w ∷ ws) = go (same n (spelling w)) refl (worded n ws)
   where
-    later : {k : Kind} → same n w ≡ false → Worded n ws (suc j) k → Worded n (w ∷ ws) j k
+    later : {k : Kind} → same n (spelling w) ≡ false → Worded n ws k → Worded n (w ∷ ws) k
     later e (no_word h) = no_word (rw e h)
-    later e (the_word i h q) =
-        let f : j + suc i ≡ suc j + i = omega arith in
-        subst (λ (m : ℕ). Worded n (w ∷ ws) j (Word m)) f (the_word (suc i) (omega arith) q)
+    later e (the_word v q) = the_word v q
 
-    go : (c : Bool) → same n w ≡ c → Worded n ws (suc j) (word_from (suc j) n ws) → Worded n (w ∷ ws) j (word_from j n (w ∷ ws))
-    go true e again =
-        let f : j + 0 ≡ j = omega arith in
-        rw (e, word_from) (subst (λ (m : ℕ). Worded n (w ∷ ws) j (Word m)) f (the_word 0 (omega arith) (same_eq n w e)))
-    go false e again = rw (e, word_from) (later e again)
+    go : (c : Bool) → same n (spelling w) ≡ c → Worded n ws (named ws n) → Worded n (w ∷ ws) (named (w ∷ ws) n)
+    go true e again = rw (e, named) (the_word w (same_eq n (spelling w) e))
+    go false e again = rw (e, named) (later e again)
 
 -- ---- from the answer to what it says
 
@@ -178,25 +177,18 @@ module _ (src : List ℕ) (p : ℕ) (inside : p ≤ length src) where
     same_part n = let e : n ≡ i + n - i = omega arith in ap₂ (λ (m : ℕ) (d : List ℕ). take m d) e there
 
     -- the answer for what the scanner finds there
-    answer : Scanned → code.Token
-    answer (token t n) = Found (kind_of t) i (i + n)
-    answer (fault n) = Refused n i
+    answer : Scanned → Answer code.Token
+    answer (token t n) = ok (record { kind = kind_of t; at = i; end = i + n })
+    answer (fault n) = refused n i
 
-    told_name : (n : ℕ) {x : Kind} → 1 ≤ n → n ≤ 255 → Stands src p i (i + n) (name (take n (drop i (drop p src)))) → Worded (take n (drop i (drop p src))) reserved 0 x → Told src p (Found x i (i + n))
-    unfolding reserved
+    told_name : (n : ℕ) {x : Kind} → 1 ≤ n → n ≤ 255 → Stands src p i (i + n) (name (take n (drop i (drop p src)))) → Worded (take n (drop i (drop p src))) words x → ToldKind src p i (i + n) x
     told_name n l f s (no_word m) = record {
       stands = subst (λ (w : List ℕ). Stands src p i (i + n) (name w)) (same_part n) s;
       some = omega arith;
       short = omega arith;
-      plain = ap (λ (w : List ℕ). member w reserved) (sym (same_part n)) ∙ m;
+      plain = ap (λ (w : List ℕ). member w reserved) (sym (same_part n)) ∙ ap (member (take n (drop i (drop p src)))) (sym reserved_are) ∙ m;
     }
-    told_name n l f s (the_word j m q) =
-        let z : j ≡ 0 + j = omega arith in
-        record {
-          stands = subst (λ (w : List ℕ). Stands src p i (i + n) (name w)) (q ∙ ap (λ (x : ℕ). get_or reserved x []) z) s;
-          some = omega arith;
-          place = omega arith;
-        }
+    told_name n l f s (the_word w q) = record { stands = subst (λ (w : List ℕ). Stands src p i (i + n) (name w)) q s; some = omega arith }
 
     told_shape : {x : Scanned} → Shape (drop i (drop p src)) x → scan (drop i (drop p src)) ≡ x → Told src p (answer x)
     unfolding answer kind_of literal_kind found text_of string_of
@@ -205,7 +197,7 @@ module _ (src : List ℕ) (p : ℕ) (inside : p ≤ length src) where
       none = omega arith;
       last = omega (arith, length-drop i (drop p src), length-drop p src);
     }
-    told_shape (a_name n l m f) e = told_name n l f (stands (name (take n (drop i (drop p src)))) n e m) (worded (take n (drop i (drop p src))) reserved 0)
+    told_shape (a_name n l m f) e = told_name n l f (stands (name (take n (drop i (drop p src)))) n e m) (worded (take n (drop i (drop p src))) words)
     told_shape (an_integer n l m f) e = record {
       stands = subst (λ (w : List ℕ). Stands src p i (i + n) (literal (integer (valued w)))) (same_part n) (stands (literal (integer (valued (take n (drop i (drop p src)))))) n e m);
       some = omega arith;
@@ -241,11 +233,11 @@ module _ (src : List ℕ) (p : ℕ) (inside : p ≤ length src) where
         z = omega arith
 
         go : (x : Scanned) → shown (found (from (0 + i) (drop i (drop p src))) x) ≡ answer x
-        go (token t n) = ap (λ (j : ℕ). Found (kind_of t) j (j + n)) z
-        go (fault n) = ap (Refused n) z
+        go (token t n) = ap (λ (j : ℕ). ok (record { kind = kind_of t; at = j; end = j + n })) z
+        go (fault n) = ap (refused n) z
 
   -- what `next_token` answers of `&src[p..]` is so told
-  pub told : (r : code.Token) → r ≡ shown (next (from 0 (drop p src))) → Told src p r
+  pub told : (r : Answer code.Token) → r ≡ shown (next (from 0 (drop p src))) → Told src p r
   unfolding shown
   told r e = go (ending (drop p src))
     where
@@ -255,7 +247,7 @@ module _ (src : List ℕ) (p : ℕ) (inside : p ≤ length src) where
           subst (Told src p) (sym (e ∙ shown_answer i h k s refl)) (told_shape i h k (shape (drop i (drop p src))) refl)
       go (at_comment i h k) =
           let z : 0 + i ≡ i = omega arith in
-          let f : r ≡ Refused 2 i = e ∙ ap shown (next_comment 0 (drop p src) 2 (0 + i) (k 0)) ∙ ap (Refused 2) z in
+          let f : r ≡ refused 2 i = e ∙ ap shown (next_comment 0 (drop p src) 2 (0 + i) (k 0)) ∙ ap (refused 2) z in
           subst (Told src p) (sym f) (record { is = next_comment p (drop p src) 2 (p + i) (k p); within = omega (arith, length-drop p src) })
 
 -- ---- the token's bytes, as `token_part` hands them back
@@ -321,50 +313,45 @@ pub plain_tests : (n : List ℕ) → member n reserved ≡ false → (is_name (n
 unfolding is_name is_word
 plain_tests n e = (ap not e, λ w f. no_member n (bytes w) reserved e f)
 
--- two places of the list hold the same word only if they are the same place: one test over all pairs
-apart : ℕ → List ℕ → Bool
-apart i w = every (λ k v. agree (same w v) (eqb i k)) 0 reserved
+-- the reserved words are the paper's
+word_member : (w : code_word.Word) → member (spelling w) reserved ≡ true
+unfolding reserved member
+word_member Extends = refl
+word_member Data = refl
+word_member Null = refl
+word_member True = refl
+word_member False = refl
+word_member Root = refl
+word_member Parent = refl
+word_member This = refl
+word_member Attrib = refl
+word_member Lazy = refl
+word_member Host = refl
+word_member Process = refl
+word_member Property = refl
+word_member Iproperty = refl
 
-pub reserved_apart : (i k : ℕ) → i < 14 → k < 14 → same (get_or reserved i []) (get_or reserved k []) ≡ eqb i k
-unfolding apart reserved
-reserved_apart i k h l =
-    agreed (same (get_or reserved i []) (get_or reserved k [])) (eqb i k)
-    (entry (λ j v. agree (same (get_or reserved i []) v) (eqb i j)) reserved [] (entry apart reserved [] refl i h) k l)
-
-reserved_member : (n : List ℕ) (ws : List (List ℕ)) (i : ℕ) → i < length ws → n ≡ get_or ws i [] → member n ws ≡ true
-unfolding member
-reserved_member n [] i h e = absurd (omega arith)
-reserved_member n (w ∷ ws) zero h e = rw (eq_same n w e)
-reserved_member n (w ∷ ws) (suc i) h e = go (same n w) (reserved_member n ws i (omega arith) e)
-  where
-    go : (c : Bool) → member n ws ≡ true → (c || member n ws) ≡ true
-    go true m = refl
-    go false m = m
-
--- the word at i: `ToldWord`. It is the word w that stands at k where i is k: 0 `extends`, 1 `DATA`, 2 `NULL`, 3 `true`, 4 `false`
-pub word_tests : (i : ℕ) → i < 14 → (is_name (name (get_or reserved i [])) ≡ false) × ((w : String) (k : ℕ) → k < 14 → bytes w ≡ get_or reserved k [] → is_word w (name (get_or reserved i [])) ≡ eqb i k)
-unfolding is_name is_word reserved
-word_tests i h = (
-  ap not (reserved_member (get_or reserved i []) reserved i h refl),
-  λ w k l e. ap (same (get_or reserved i [])) e ∙ reserved_apart i k h l,
-)
+-- the word w: `ToldWord`. It is no plain name, and it is the word that it is spelt as, and no other
+pub word_tests : (w : code_word.Word) → (is_name (name (spelling w)) ≡ false) × ((x : String) → is_word x (name (spelling w)) ≡ same (spelling w) (bytes x))
+unfolding is_name is_word
+word_tests w = (ap not (word_member w), λ x. refl)
 
 -- ---- in short, for a caller that has read `&src[p..]`
 
 module _ (src : List ℕ) (p : ℕ) (inside : p ≤ length src) where
   -- the checker's list for `&src[p..]`
-  pub told_at : (r : code.Token) → r ≡ shown (next (from 0 (take (length src - p) (drop p src)))) → Told src p r
+  pub told_at : (r : Answer code.Token) → r ≡ shown (next (from 0 (take (length src - p) (drop p src)))) → Told src p r
   told_at r e = told src p inside r (e ∙ ap (λ (s : List ℕ). shown (next (from 0 s))) (rest src p))
 
   -- where a token of any kind lies: some of the source, unless it is the end
-  lies : (k : Kind) (a e : ℕ) → Told src p (Found k a e) → (a ≤ e) × (p + e ≤ length src) × ((k ≡ End → ⊥) → a < e)
+  lies : (k : Kind) (a e : ℕ) → ToldKind src p a e k → (a ≤ e) × (p + e ≤ length src) × ((k ≡ End → ⊥) → a < e)
   lies Name a e t = (t.stands.ahead, t.stands.within, λ _. t.some)
-  lies (Word i) a e t = (t.stands.ahead, t.stands.within, λ _. t.some)
+  lies (Word w) a e t = (t.stands.ahead, t.stands.within, λ _. t.some)
   lies (Integer v) a e t = (t.stands.ahead, t.stands.within, λ _. t.some)
   lies Decimal a e t = (t.stands.ahead, t.stands.within, λ _. t.some)
   lies (Text n) a e t = (t.stands.ahead, t.stands.within, λ _. t.some)
   lies (Mark b) a e t = (t.stands.ahead, t.stands.within, λ _. omega (arith, t.one))
   lies End a e t = (t.stands.ahead, t.stands.within, λ f. absurd (f refl))
 
-  pub bounds : (k : Kind) (a e : ℕ) → Found k a e ≡ shown (next (from 0 (take (length src - p) (drop p src)))) → (a ≤ e) × (p + e ≤ length src) × ((k ≡ End → ⊥) → a < e)
-  bounds k a e h = lies k a e (told_at (Found k a e) h)
+  pub bounds : (t : code.Token) → ok t ≡ shown (next (from 0 (take (length src - p) (drop p src)))) → (t.at ≤ t.end) × (p + t.end ≤ length src) × ((t.kind ≡ End → ⊥) → t.at < t.end)
+  bounds t h = lies t.kind t.at t.end (told_at (ok t) h)

@@ -1,18 +1,27 @@
 -- The class of a byte, as the table gives it. Assumes nothing.
-use Rattle.std.specs.Prelude.{ℕ, ◌<◌, ◌≡◌, List, eqb, leb, get_or}
-use Rattle.paper.specs.Bytes.{is, among}
-use Rattle.paper.specs.Tokens.{blank, digit, starts, goes_on}
+use Rattle.std.specs.Prelude.{ℕ, Bool, true, false}
+use Rattle.paper.specs.Bytes.{is, among, when◌then◌else◌}
+use Rattle.paper.specs.Tokens.{blank, digit, starts}
+use Rattle.tokens.specs.declared.class.Class.{Class}
+use Rattle.tokens.specs.declared.class.Class.TheVariants.{Start, Digit, Minus, Quote, Mark, Blank, Other}
 
--- c is the class of the byte b: one number for each of the paper's classes
-pub record Class (b c : ℕ) : Type 0 where
-  pub blank_is : eqb c 49 ≡ blank b
-  pub mark_is : eqb c 50 ≡ among ";,{}[]:" b
-  pub quote_is : eqb c 51 ≡ is "\"" b
-  pub minus_is : eqb c 52 ≡ is "-" b
-  pub digit_is : eqb c 53 ≡ digit b
-  pub start_is : eqb c 54 ≡ starts b
-  pub goes_on_is : leb 52 c ≡ goes_on b
+-- the first of the paper's classes to which a byte belongs; it belongs to no other
+unfoldable pub class_of : ℕ → Class
+class_of b =
+    when starts b then Start else
+    when digit b then Digit else
+    when is "-" b then Minus else
+    when is "\"" b then Quote else
+    when among ";,{}[]:" b then Mark else
+    when blank b then Blank else
+    Other
 
--- the table gives the class of every byte
-abbrev pub Classed : List ℕ → Type 0
-Classed t = (b : ℕ) → b < 256 → Class b (get_or t b 0)
+-- a name goes on with a byte of this class
+abbrev pub goes_on_of : Class → Bool
+goes_on_of Start = true
+goes_on_of Digit = true
+goes_on_of Minus = true
+goes_on_of Quote = false
+goes_on_of Mark = false
+goes_on_of Blank = false
+goes_on_of Other = false

@@ -3,10 +3,9 @@ use Rattle.paper.specs.Answer.{Answer, ok, refused}
 use Rattle.paper.specs.Tokens.{Here}
 use Rattle.paper.specs.Tokens as Paper
 use Rattle.tokens.specs.declared.Token.{Token}
-use Rattle.tokens.specs.declared.Token.TheVariants.{Found, Refused}
 use Rattle.tokens.specs.Kinds.{kind_of}
 
 -- the next token, where it stands and where it ends; or the refusal
-unfoldable pub shown : Answer (Paper.Token × Here × Here) → Token
-shown (ok y) = Found (kind_of y.0) y.1.place y.2.place
-shown (refused n p) = Refused n p
+unfoldable pub shown : Answer (Paper.Token × Here × Here) → Answer Token
+shown (ok y) = ok (record { kind = kind_of y.0; at = y.1.place; end = y.2.place })
+shown (refused n p) = refused n p

@@ -1,46 +1,46 @@
-// The class of each byte, in one table: 0 other, 1 blank, 2 mark, 3 quote, 4 minus, 5 digit, 6 begins a name. So 4 and above go on a name.
-ghost use Rattle.std.specs.Prelude.{◌≡◌, ◌<◌};
-ghost use Rattle.paper.specs.Bytes.{at};
-ghost use Rattle.tokens.specs.Class.{Class, Classed};
+// The class of each byte, in one table.
+ghost use Rattle.std.specs.Prelude.{◌≡◌};
+ghost use Rattle.tokens.specs.Class.{class_of, goes_on_of};
 
-pub const BLANK: u8 = b'1';
+use Class::{Blank as B, Digit as D, Mark as M, Minus as N, Other as O, Quote as Q, Start as S};
 
-pub const MARK: u8 = b'2';
-
-pub const QUOTE: u8 = b'3';
-
-pub const MINUS: u8 = b'4';
-
-pub const DIGIT: u8 = b'5';
-
-pub const START: u8 = b'6';
-
-const CLASS: [u8; 256] = *b"\
-    0000000001101100000000000000000010306000000024005555555555220000\
-    0666666666666666666666666662020606666666666666666666666666620200\
-    0000000000000000000000000000000000000000000000000000000000000000\
-    0000000000000000000000000000000000000000000000000000000000000000";
-
-// A constant array is made anew at each read: a scan makes it once and lends it.
-pub(crate) fn table() -> [u8; 256]
-    ensures { Classed result }
-{
-    CLASS
+// What a byte does: it begins a name, is a digit or a minus, which may go on one, opens a string, is a mark,
+// is skipped, or none of these.
+#[derive(Clone, Copy, Debug, PartialEq, Eq)]
+pub enum Class {
+    Start,
+    Digit,
+    Minus,
+    Quote,
+    Mark,
+    Blank,
+    Other,
 }
 
-pub(crate) fn wide(x: u8) -> usize
-    ensures { (result ≡ x) × (result < 256) }
-{
-    x as usize
-}
+// 32 bytes a row. A static, since a constant array would be made anew at each read.
+static TABLE: [Class; 256] = [
+    O, O, O, O, O, O, O, O, O, B, B, O, B, B, O, O, O, O, O, O, O, O, O, O, O, O, O, O, O, O, O, O,
+    B, O, Q, O, S, O, O, O, O, O, O, O, M, N, O, O, D, D, D, D, D, D, D, D, D, D, M, M, O, O, O, O,
+    O, S, S, S, S, S, S, S, S, S, S, S, S, S, S, S, S, S, S, S, S, S, S, S, S, S, S, M, O, M, O, S,
+    O, S, S, S, S, S, S, S, S, S, S, S, S, S, S, S, S, S, S, S, S, S, S, S, S, S, S, M, O, M, O, O,
+    O, O, O, O, O, O, O, O, O, O, O, O, O, O, O, O, O, O, O, O, O, O, O, O, O, O, O, O, O, O, O, O,
+    O, O, O, O, O, O, O, O, O, O, O, O, O, O, O, O, O, O, O, O, O, O, O, O, O, O, O, O, O, O, O, O,
+    O, O, O, O, O, O, O, O, O, O, O, O, O, O, O, O, O, O, O, O, O, O, O, O, O, O, O, O, O, O, O, O,
+    O, O, O, O, O, O, O, O, O, O, O, O, O, O, O, O, O, O, O, O, O, O, O, O, O, O, O, O, O, O, O, O,
+];
 
-pub(crate) fn class_at(class: &[u8; 256], s: &[u8], i: usize) -> u8
-    requires { Classed class.now }
-    ensures { Class (at s.now i) result }
-{
-    if i < s.len() {
-        let b = wide(s[i]);
-        return class[b];
+impl Class {
+    // The class of a byte.
+    pub(crate) fn of(b: u8) -> Class
+        ensures { result ≡ class_of b }
+    {
+        TABLE[usize::from(b)]
     }
-    b'0'
+
+    // Whether a name goes on with a byte of this class.
+    pub(crate) fn goes_on(self) -> bool
+        ensures { result ≡ goes_on_of self }
+    {
+        matches!(self, Class::Start | Class::Digit | Class::Minus)
+    }
 }

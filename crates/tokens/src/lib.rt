@@ -11,17 +11,19 @@ ghost use Rattle.std.specs.Prelude.{◌≡◌, not, ◌&&◌, length};
 ghost use Rattle.paper.specs.Tokens.{member, reserved};
 ghost use Rattle.paper.specs.Scanner.{scan, next};
 ghost use Rattle.paper.specs.Decoder.{one_name, one_decimal};
+ghost use Rattle.refusal.specs.Refused.{answered};
 ghost use Rattle.tokens.specs.Shown.{shown};
 
-use crate::class::table;
-use crate::gaps::{Skipped, skip};
+use crate::gaps::skip;
 use crate::scan::{Front, scan_front};
+pub use names::Word;
+use refusal::Refusal;
 
-// What a token is: `Word` has its place among the reserved words, `Integer` its 64 bits, `Text` the number of its bytes.
-#[derive(Clone, Copy)]
+// What a token is: `Integer` has its 64 bits, `Text` the number of the bytes that it means.
+#[derive(Clone, Copy, Debug, PartialEq, Eq)]
 pub enum Kind {
     Name,
-    Word(usize),
+    Word(Word),
     Integer(u64),
     Decimal,
     Text(usize),
@@ -29,28 +31,26 @@ pub enum Kind {
     End,
 }
 
-// A token and the part of the rest that it was read from, or a refusal; places count from the front of the rest.
-#[derive(Clone, Copy)]
-pub enum Token {
-    Found { kind: Kind, at: usize, end: usize },
-    Refused { number: usize, at: usize },
+// A token, and the part of the rest that it was read from.
+#[derive(Clone, Copy, Debug, PartialEq, Eq)]
+pub struct Token {
+    pub kind: Kind,
+    pub at: usize,
+    pub end: usize,
 }
 
-// The next token of the rest of the source.
-pub fn next_token(rest: &[u8]) -> Token
-    ensures { result ≡ shown (next (record { place = 0; rest = rest.now })) }
+// The next token of the rest of the source; places count from the front of the rest.
+pub fn next_token(rest: &[u8]) -> Result<Token, Refusal>
+    ensures { answered result ≡ shown (next (record { place = 0; rest = rest.now })) }
 {
-    let class = table();
-    match skip(&class, rest) {
-        Skipped::Open(at) => Token::Refused { number: 2, at },
-        Skipped::To(at) => match scan_front(&class, &rest[at..]) {
-            Front::Read { kind, len } => Token::Found {
-                kind,
-                at,
-                end: at + len,
-            },
-            Front::Fault(number) => Token::Refused { number, at },
-        },
+    let at = skip(rest)?;
+    match scan_front(&rest[at..]) {
+        Ok(Front { kind, len }) => Ok(Token {
+            kind,
+            at,
+            end: at + len,
+        }),
+        Err(reason) => Err(Refusal { reason, place: at }),
     }
 }
 
@@ -58,36 +58,12 @@ pub fn next_token(rest: &[u8]) -> Token
 pub fn is_name(s: &[u8]) -> bool
     ensures { result ≡ (one_name (length s.now) (scan s.now) && not (member s.now reserved)) }
 {
-    let class = table();
-    match scan_front(&class, s) {
-        Front::Read { kind, len } => match kind {
-            Kind::Name => len == s.len(),
-            Kind::Word(_) => false,
-            Kind::Integer(_) => false,
-            Kind::Decimal => false,
-            Kind::Text(_) => false,
-            Kind::Mark(_) => false,
-            Kind::End => false,
-        },
-        Front::Fault(_) => false,
-    }
+    matches!(scan_front(s), Ok(Front { kind: Kind::Name, len }) if len == s.len())
 }
 
 // Whether all of s is one decimal.
 pub fn is_decimal(s: &[u8]) -> bool
     ensures { result ≡ one_decimal (length s.now) (scan s.now) }
 {
-    let class = table();
-    match scan_front(&class, s) {
-        Front::Read { kind, len } => match kind {
-            Kind::Name => false,
-            Kind::Word(_) => false,
-            Kind::Integer(_) => false,
-            Kind::Decimal => len == s.len(),
-            Kind::Text(_) => false,
-            Kind::Mark(_) => false,
-            Kind::End => false,
-        },
-        Front::Fault(_) => false,
-    }
+    matches!(scan_front(s), Ok(Front { kind: Kind::Decimal, len }) if len == s.len())
 }

@@ -3,131 +3,118 @@ ghost use Rattle.std.specs.Prelude.{◌≡◌, drop};
 ghost use Rattle.paper.specs.Tokens.{goes_on};
 ghost use Rattle.paper.specs.Bytes.{at, is};
 ghost use Rattle.paper.specs.Scanner.{span, sign, named, text, scan};
-ghost use Rattle.tokens.specs.Numbers.{Digits};
-ghost use Rattle.tokens.specs.Class.{Classed};
 ghost use Rattle.spelling.specs.Text.{quotes};
-ghost use Rattle.tokens.specs.Scans.{scan_of, numbered, ends_at, integer_front};
+ghost use Rattle.tokens.specs.Numbers.{Digits};
+ghost use Rattle.tokens.specs.Scans.{by_number, front_of, numbered, ends_at, integer_front};
 
 use crate::Kind;
-use crate::class::{MARK, MINUS, QUOTE, START, class_at};
+use crate::class::Class;
 use crate::names::{kind_of, name_len};
-use crate::numbers::{Amount, integer, number_len, whole_len};
-use spelling::{Quoted, byte_at, measure};
+use crate::numbers::{integer, number_len, whole_len};
+use refusal::Reason;
+use spelling::{LONGEST, Quoted, measure};
 
-const POINT: usize = 46;
+// The most bytes of a name.
+const LONGEST_NAME: usize = 255;
 
-// A token with its length, or the number of a refusal.
-#[derive(Clone, Copy)]
-pub enum Front {
-    Read { kind: Kind, len: usize },
-    Fault(usize),
+// A token with its length.
+#[derive(Clone, Copy, Debug, PartialEq, Eq)]
+pub struct Front {
+    pub kind: Kind,
+    pub len: usize,
 }
 
-// A name has at most 255 bytes.
-fn name_token(class: &[u8; 256], s: &[u8]) -> Front
-    requires { Classed class.now }
-    ensures { result ≡ scan_of (named (span goes_on s.now) s.now) }
+fn name_token(s: &[u8]) -> Result<Front, Reason>
+    ensures { by_number result ≡ front_of (named (span goes_on s.now) s.now) }
 {
-    let n = name_len(class, s);
-    if 255 < n {
-        return Front::Fault(6);
+    let len = name_len(s);
+    if len > LONGEST_NAME {
+        return Err(Reason::TokenTooLong);
     }
-    let kind = kind_of(&s[0..n]);
-    Front::Read { kind, len: n }
+    Ok(Front {
+        kind: kind_of(&s[..len]),
+        len,
+    })
 }
 
 // Whether a number that ends at a place ends there: no name byte and no `.` may follow.
-fn ends_at(class: &[u8; 256], s: &[u8], m: usize) -> bool
-    requires { Classed class.now }
+fn ends_at(s: &[u8], m: usize) -> bool
     ensures { result ≡ ends_at s.now m }
 {
-    if MINUS <= class_at(class, s, m) {
-        return false;
+    match s.get(m) {
+        Some(b) => !Class::of(*b).goes_on() && *b != b'.',
+        None => true,
     }
-    POINT != byte_at(s, m)
 }
 
-fn number_token(class: &[u8; 256], s: &[u8]) -> Front
-    requires { Classed class.now }
-    ensures { result ≡ scan_of (numbered s.now) }
+fn number_token(s: &[u8]) -> Result<Front, Reason>
+    ensures { by_number result ≡ front_of (numbered s.now) }
 {
-    let n = whole_len(class, s);
-    if n == 0 {
-        return Front::Fault(2);
+    let whole = whole_len(s);
+    if whole == 0 {
+        return Err(Reason::NoToken);
     }
-    let m = number_len(class, s, n);
-    if !ends_at(class, s, m) {
-        return Front::Fault(2);
-    }
-    if m <= n {
-        return integer_token(&s[0..n]);
-    }
-    if 4095 < m {
-        return Front::Fault(6);
-    }
-    Front::Read {
-        kind: Kind::Decimal,
-        len: m,
+    let len = number_len(s, whole);
+    if !ends_at(s, len) {
+        Err(Reason::NoToken)
+    } else if len == whole {
+        integer_token(&s[..len])
+    } else if len > LONGEST {
+        Err(Reason::TokenTooLong)
+    } else {
+        Ok(Front {
+            kind: Kind::Decimal,
+            len,
+        })
     }
 }
 
 // All of s is an integer's text.
-fn integer_token(s: &[u8]) -> Front
-    requires { Digits s.now (sign (is "-") (at s.now 0)) }
-    ensures { result ≡ integer_front s.now }
+fn integer_token(s: &[u8]) -> Result<Front, Reason>
+    requires { Digits (drop (sign (is "-") (at s.now 0)) s.now) }
+    ensures { by_number result ≡ integer_front s.now }
 {
     match integer(s) {
-        Amount::Fits(v) => Front::Read {
-            kind: Kind::Integer(v),
+        Some(bits) => Ok(Front {
+            kind: Kind::Integer(bits),
             len: s.len(),
-        },
-        Amount::TooLarge => Front::Fault(4),
+        }),
+        None => Err(Reason::IntegerOutOfRange),
     }
 }
 
-// A string means at most 4,095 bytes.
-fn string_token(s: &[u8]) -> Front
-    ensures { result ≡ scan_of (text (quotes (drop 1 s.now))) }
+fn string_token(s: &[u8]) -> Result<Front, Reason>
+    ensures { by_number result ≡ front_of (text (quotes (drop 1 s.now))) }
 {
-    match measure(s, 1) {
-        Quoted::Closed { count, end } => {
-            if 4095 < count {
-                return Front::Fault(6);
-            }
-            Front::Read {
-                kind: Kind::Text(count),
-                len: end,
-            }
-        }
-        Quoted::Unclosed => Front::Fault(2),
+    let Some(Quoted { count, end }) = measure(s, 1) else {
+        return Err(Reason::NoToken);
+    };
+    if count > LONGEST {
+        return Err(Reason::TokenTooLong);
     }
+    Ok(Front {
+        kind: Kind::Text(count),
+        len: end,
+    })
 }
 
-pub(crate) fn scan_front(class: &[u8; 256], s: &[u8]) -> Front
-    requires { Classed class.now }
-    ensures { result ≡ scan_of (scan s.now) }
+pub(crate) fn scan_front(s: &[u8]) -> Result<Front, Reason>
+    ensures { by_number result ≡ front_of (scan s.now) }
 {
-    if s.len() == 0 {
-        return Front::Read {
+    let Some(first) = s.first() else {
+        return Ok(Front {
             kind: Kind::End,
             len: 0,
-        };
-    }
-    let c = class_at(class, s, 0);
-    if c == START {
-        return name_token(class, s);
-    }
-    if MINUS <= c {
-        return number_token(class, s);
-    }
-    if c == QUOTE {
-        return string_token(s);
-    }
-    if c == MARK {
-        return Front::Read {
-            kind: Kind::Mark(s[0]),
+        });
+    };
+    match Class::of(*first) {
+        Class::Start => name_token(s),
+        Class::Digit | Class::Minus => number_token(s),
+        Class::Quote => string_token(s),
+        Class::Mark => Ok(Front {
+            kind: Kind::Mark(*first),
             len: 1,
-        };
+        }),
+        Class::Blank | Class::Other => Err(Reason::NoToken),
     }
-    Front::Fault(2)
 }

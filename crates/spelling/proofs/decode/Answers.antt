@@ -1,74 +1,83 @@
 -- `spelling::decode` meets its contract. Assumes nothing.
-use native.Mathlib.Omega.{arith}
-use mathlib.Core.Path.{◌≡◌, sym, ap, ap₂, ◌∙◌}
-use mathlib.Core.Bool.{true}
-use mathlib.Core.List.{List}
-use Prim.Native.Nat.{ℕ, ◌+◌}
-use borrow.Author.Tests.{not-true, not-false, leb-true}
-use lib.ListN.{length, drop}
-use lib.Dec.{leb}
+use Rattle.std.proofs.Common.{◌≡◌, ℕ, ◌+◌, ◌≤◌, List, true, length, drop, get_or, sym, ap, ap₂, ◌∙◌, arith}
+use borrow.Author.Tests.{leb-true}
+use lib.Dec.{leb, lit<}
 use Rattle.paper.specs.Scanner.{scan, text}
 use Rattle.spelling.specs.Text.{quotes, is_closed, text_in, put}
 use Rattle.spelling.specs.Spelt.{text_of, Decoded}
+use Rattle.spelling.proofs.At.{at_in, there}
 use Rattle.spelling.proofs.Decodes.{no_string, a_string, closed_told, unclosed_told, text_short, text_long, writes_nothing, writes_none, writes_all}
 use Rattle.spelling.proofs.decode.Goals as goal
-use Rattle.spelling.proofs.decode.Goals.{Else-byte_at-ne-QUOTE, Else-count-gt4095, In-Closed}
+use Rattle.spelling.proofs.decode.Goals.{In-Some, then-count-gt-LONGEST-via-then-count-gt-LONGEST, then-count-gt-LONGEST-via-else-count-gt-LONGEST+then-not-fits}
 
 answer : ℕ → List ℕ → Decoded
 answer k o = record { count = k; out = o }
 
 -- a quote stands at the front, and so the token is a string or none
-quoted : (c : Else-byte_at-ne-QUOTE) → scan c.args.rest.now ≡ text (quotes (drop 1 c.args.rest.now))
-quoted c = a_string c.args.rest.now (sym c.byte_at.ensures ∙ c.if-byte_at-ne-QUOTE.false)
+quoted : (s : List ℕ) → 1 ≤ length s → get_or s 0 0 ≡ 34 → scan s ≡ text (quotes (drop 1 s))
+quoted s h e = a_string s (sym (at_in s 0 h) ∙ e)
 
-closed : (c : In-Closed) → (is_closed (quotes (drop 1 c.args.rest.now)) ≡ true) × (c.in-Closed.count ≡ length (text_in (quotes (drop 1 c.args.rest.now))))
-closed c = closed_told (quotes (drop 1 c.args.rest.now)) c.in-Closed.count c.in-Closed.end (sym c.in-Closed.is ∙ c.measure.ensures)
+-- it is a string, and so many bytes are meant
+record String (s : List ℕ) (n : ℕ) : Type 0 where
+  is : scan s ≡ text (quotes (drop 1 s))
+  closed : is_closed (quotes (drop 1 s)) ≡ true
+  count : n ≡ length (text_in (quotes (drop 1 s)))
+
+string : (c : In-Some) → String c.args.rest.now c.in-Some.field-0.count
+string c =
+    let s = c.args.rest.now in
+    let q = closed_told (quotes (drop 1 s)) c.in-Some.field-0 c.in-Some.ensures in
+    record { is = quoted s c.in-34.len_at_least (omega arith); closed = q.0; count = q.1 }
 
 -- which means what it holds
-meaning : (c : Else-count-gt4095) → text_of (scan c.args.rest.now) ≡ text_in (quotes (drop 1 c.args.rest.now))
-meaning c =
-    let q = (closed_told (quotes (drop 1 c.args.rest.now)) c.in-Closed.count c.in-Closed.end (sym c.in-Closed.is ∙ c.measure.ensures)) in
-    ap text_of ((a_string c.args.rest.now (sym c.byte_at.ensures ∙ c.if-byte_at-ne-QUOTE.false))) ∙ text_short (quotes (drop 1 c.args.rest.now)) q.0 (omega (arith, q.1, c.if-count-gt4095.false))
+meaning : (s : List ℕ) (n : ℕ) → String s n → n ≤ 4095 → text_of (scan s) ≡ text_in (quotes (drop 1 s))
+meaning s n q h = ap text_of q.is ∙ text_short (quotes (drop 1 s)) q.closed (omega (arith, q.count))
 
-pub returns-then-byte_at-ne-QUOTE : goal.returns-then-byte_at-ne-QUOTE
-returns-then-byte_at-ne-QUOTE c =
+pub returns-in_default : goal.returns-in_default
+returns-in_default c =
     let a = c.args in
-    writes_nothing (scan a.rest.now) a.at a.out.now (no_string a.rest.now (λ e. c.if-byte_at-ne-QUOTE.true (c.byte_at.ensures ∙ e)))
+    writes_nothing (scan a.rest.now) a.at a.out.now (no_string a.rest.now (λ e. omega (arith, there a.rest.now 0 34 e (lit< tt))))
 
-pub returns-then-count-gt4095 : goal.returns-then-count-gt4095
-returns-then-count-gt4095 c =
+pub returns-in_default-2 : goal.returns-in_default-2
+returns-in_default-2 c =
     let a = c.args in
-    let q = closed (goal.at.returns-then-count-gt4095 c).In-Closed in
-    writes_nothing (scan a.rest.now) a.at a.out.now (ap text_of (quoted (goal.at.returns-then-count-gt4095 c).Else-byte_at-ne-QUOTE) ∙ text_long (quotes (drop 1 a.rest.now)) (omega (arith, q.1, c.if-count-gt4095.true)))
+    writes_nothing (scan a.rest.now) a.at a.out.now (no_string a.rest.now (λ e. omega (arith, at_in a.rest.now 0 c.in_default.len_at_least)))
 
-pub returns-then-not-fits : goal.returns-then-not-fits
-returns-then-not-fits c =
-    let a = c.args in
-    let q = closed (goal.at.returns-then-not-fits c).In-Closed in
-    writes_none (scan a.rest.now) a.at a.out.now
-    (ap (λ (n : ℕ). leb (a.at + n) (length a.out.now)) (ap length (meaning (goal.at.returns-then-not-fits c).Else-count-gt4095) ∙ sym q.1) ∙ sym c.fits.ensures ∙ not-true _ c.if-not-fits.true-raw)
-
-pub write_text-requires : goal.write_text-requires
-write_text-requires c =
-    let a = c.args in
-    let q = closed (goal.at.write_text-requires c).In-Closed in
-    record { s_value = q.0; s_in_bounds = omega (arith, q.1, leb-true (a.at + c.in-Closed.count) (length a.out.now) (sym c.fits.ensures ∙ not-false _ c.if-not-fits.false-raw)) }
-
-pub returns-else-not-fits : goal.returns-else-not-fits
-unfolding answer
-returns-else-not-fits c =
-    let a = c.args in
-    let q = closed (goal.at.returns-else-not-fits c).In-Closed in
-    let m = meaning (goal.at.returns-else-not-fits c).Else-count-gt4095 in
-    let l : text_in (quotes (drop 1 a.rest.now)) ≡ text_of (scan a.rest.now) = sym m in
-    let n : c.in-Closed.count ≡ length (text_of (scan a.rest.now)) = q.1 ∙ ap length l in
-    let w = c.write_text.ensures ∙ ap (λ (t : List ℕ). put a.at t a.out.now) l in
-    ap₂ (λ (k : ℕ) (o : List ℕ). answer k o) n w
-    ∙ writes_all (scan a.rest.now) a.at a.out.now
-    (ap (λ (k : ℕ). leb (a.at + k) (length a.out.now)) (sym n) ∙ sym c.fits.ensures ∙ not-false _ c.if-not-fits.false-raw)
-
-pub returns-in-Unclosed : goal.returns-in-Unclosed
-returns-in-Unclosed c =
+pub returns-in_default-measure : goal.returns-in_default-measure
+returns-in_default-measure c =
     let a = c.args in
     writes_nothing (scan a.rest.now) a.at a.out.now
-    (ap text_of (quoted (goal.at.returns-in-Unclosed c).Else-byte_at-ne-QUOTE) ∙ unclosed_told (quotes (drop 1 a.rest.now)) (sym c.in-Unclosed.is ∙ c.measure.ensures))
+    (ap text_of (quoted a.rest.now c.in-34.len_at_least (omega arith)) ∙ unclosed_told (quotes (drop 1 a.rest.now)) c.in_default-measure.ensures)
+
+pub returns-then-count-gt-LONGEST : goal.returns-then-count-gt-LONGEST
+returns-then-count-gt-LONGEST c =
+    let a = c.args in
+    let s = a.rest.now in
+    let q = string (goal.at.returns-then-count-gt-LONGEST c).In-Some in
+    elim c.then-count-gt-LONGEST.branch [
+      | then-count-gt-LONGEST-via-then-count-gt-LONGEST w ↦
+          writes_nothing (scan s) a.at a.out.now (ap text_of q.is ∙ text_long (quotes (drop 1 s)) (omega (arith, q.count)))
+      | then-count-gt-LONGEST-via-else-count-gt-LONGEST+then-not-fits w ↦
+          writes_none (scan s) a.at a.out.now
+          (ap (λ (n : ℕ). leb (a.at + n) (length a.out.now)) (ap length (meaning s _ q w.if-count-gt-LONGEST.false) ∙ sym q.count) ∙ sym w.if-not-fits.ensures)
+    ]
+
+pub write_text-requires-clause-closed : goal.write_text-requires-clause-closed
+write_text-requires-clause-closed c = (string (goal.at.write_text-requires-clause-closed c).In-Some).closed
+
+pub write_text-requires-clause-in_bounds : goal.write_text-requires-clause-in_bounds
+write_text-requires-clause-in_bounds c =
+    let a = c.args in
+    let q = string (goal.at.write_text-requires-clause-in_bounds c).In-Some in
+    omega (arith, q.count, leb-true (a.at + c.in-Some.field-0.count) (length a.out.now) (sym c.if-not-fits.ensures))
+
+pub returns : goal.returns
+unfolding answer
+returns c =
+    let a = c.args in
+    let s = a.rest.now in
+    let q = string (goal.at.returns c).In-Some in
+    let l = sym (meaning s _ q c.if-count-gt-LONGEST.false) in
+    let n : c.in-Some.field-0.count ≡ length (text_of (scan s)) = q.count ∙ ap length l in
+    ap₂ (λ (k : ℕ) (o : List ℕ). answer k o) n (c.write_text.ensures ∙ ap (λ (t : List ℕ). put a.at t a.out.now) l)
+    ∙ writes_all (scan s) a.at a.out.now (ap (λ (k : ℕ). leb (a.at + k) (length a.out.now)) (sym n) ∙ sym c.if-not-fits.ensures)

@@ -1,11 +1,12 @@
-use mathlib.Core.Path.{◌≡◌}
-use Prim.Native.Nat.{◌-◌, ◌≤◌}
-use lib.ListN.{length, drop}
+use Rattle.std.proofs.Common.{◌≡◌, ◌-◌, ◌≤◌, length, drop}
 use Rattle.spelling.specs.Text.{quotes, quoted_of}
 use Rattle.spelling.proofs.text.measure.Given as goal
 
-abbrev pub invariant-loop-i : goal.invariant-loop-i
-invariant-loop-i l = (l.n ≤ l.i) × (quoted_of 0 l.from (quotes (drop l.from l.s)) ≡ quoted_of l.n l.i (quotes (drop l.i l.s)))
+abbrev pub invariant-loop-at : goal.invariant-loop-at
+invariant-loop-at l = record {
+  fewer : l.count ≤ l.at;
+  same : quoted_of 0 l.from (quotes (drop l.from l.s)) ≡ quoted_of l.count l.at (quotes (drop l.at l.s));
+}
 
-abbrev pub decreases-loop-i : goal.decreases-loop-i
-decreases-loop-i l = length l.s - l.i
+abbrev pub decreases-loop-at : goal.decreases-loop-at
+decreases-loop-at l = length l.s - l.at

@@ -1,40 +1,35 @@
 -- `tokens::gaps::skip` meets its contract. Assumes nothing.
-use native.Mathlib.Omega.{arith}
-use mathlib.Core.Path.{refl, sym, ap, ◌∙◌}
-use Rattle.tokens.specs.Gaps.{skip_of}
-use Rattle.tokens.proofs.Skips.{stops, goes, opens, ends_at}
+use Rattle.std.proofs.Common.{Some, sym, ap, ◌∙◌, arith}
+use Rattle.tokens.specs.Gaps.{place_of}
+use Rattle.tokens.proofs.Skips.{stops, goes, opens}
 use Rattle.tokens.proofs.gaps.skip.Goals as goal
 
-pub loop-i-init : goal.loop-i-init
-loop-i-init c = (omega arith, refl)
-
-pub returns-then-e-i : goal.returns-then-e-i
-returns-then-e-i c =
+pub returns-then-len-eq0 : goal.returns-then-len-eq0
+unfolding place_of
+returns-then-len-eq0 c =
     let s = c.args.s.now in
-    let l = c.loop-i in
-    stops s l.i c.in-At.e (sym c.in-At.is ∙ c.gap_end.ensures) c.if-e-i.true ∙ ap skip_of (sym l.invariant.1)
+    let l = c.loop-len in
+    sym (ap place_of (l.invariant.same ∙ stops s l.place (ap Some (sym c.if-len-eq0.true) ∙ c.in-Some.ensures)))
 
-pub loop-i-smaller : goal.loop-i-smaller
-loop-i-smaller c =
-    let s = c.args.s.now in
-    let l = c.loop-i in
-    let g = goes s l.i c.in-At.e (sym c.in-At.is ∙ c.gap_end.ensures) c.if-e-i.false l.invariant.0 in
+pub overflow_add-place : goal.overflow_add-place
+overflow_add-place c =
+    let l = c.loop-len in
+    omega (arith, (goes c.args.s.now l.place _ c.in-Some.ensures c.if-len-eq0.false l.invariant.within).0, c.well_formed)
+
+pub loop-len-smaller : goal.loop-len-smaller
+loop-len-smaller c =
+    let l = c.loop-len in
+    let g = goes c.args.s.now l.place _ c.in-Some.ensures c.if-len-eq0.false l.invariant.within in
     omega arith
 
-pub loop-i-preserved : goal.loop-i-preserved
-loop-i-preserved c =
-    let s = c.args.s.now in
-    let l = c.loop-i in
-    let g = goes s l.i c.in-At.e (sym c.in-At.is ∙ c.gap_end.ensures) c.if-e-i.false l.invariant.0 in
-    (g.1, l.invariant.1 ∙ g.2)
-
-pub returns-in-Never : goal.returns-in-Never
-returns-in-Never c =
-    let s = c.args.s.now in
-    let l = c.loop-i in
-    opens s l.i (sym c.in-Never.is ∙ c.gap_end.ensures) ∙ ap skip_of (sym l.invariant.1)
+pub loop-len-preserved : goal.loop-len-preserved
+loop-len-preserved c =
+    let l = c.loop-len in
+    let g = goes c.args.s.now l.place _ c.in-Some.ensures c.if-len-eq0.false l.invariant.within in
+    record { within = g.0; same = l.invariant.same ∙ g.1 }
 
 pub returns : goal.returns
+unfolding place_of
 returns c =
-    let l = c.loop-i in
-    ends_at c.args.s.now l.i c.loop-i-test.false ∙ ap skip_of (sym l.invariant.1)
+    let l = c.loop-len in
+    sym (ap place_of (l.invariant.same ∙ opens c.args.s.now l.place c.in_default.ensures))

@@ -1,11 +1,9 @@
-use mathlib.Core.Path.{◌≡◌}
-use Prim.Native.Nat.{◌-◌, ◌≤◌}
-use lib.ListN.{length, drop}
+use Rattle.std.proofs.Common.{◌≡◌, ◌-◌, ◌≤◌, length, drop}
 use Rattle.tokens.specs.Gaps.{skips}
 use Rattle.tokens.proofs.gaps.skip.Given as goal
 
-abbrev pub invariant-loop-i : goal.invariant-loop-i
-invariant-loop-i l = (l.i ≤ length l.s) × (skips 0 l.s ≡ skips l.i (drop l.i l.s))
+abbrev pub invariant-loop-len : goal.invariant-loop-len
+invariant-loop-len l = record { within : l.place ≤ length l.s; same : skips 0 l.s ≡ skips l.place (drop l.place l.s) }
 
-abbrev pub decreases-loop-i : goal.decreases-loop-i
-decreases-loop-i l = length l.s - l.i
+abbrev pub decreases-loop-len : goal.decreases-loop-len
+decreases-loop-len l = length l.s - l.place

@@ -1,37 +1,19 @@
 -- `tokens::names::name_len` meets its contract. Assumes nothing.
-use native.Mathlib.Omega.{arith}
-use mathlib.Core.Path.{sym, ap, ◌∙◌}
-use borrow.Author.Tests.{le-leb, lt-leb}
+use Rattle.std.proofs.Common.{ℕ, ◌∙◌, rules}
+use borrow.Author.Tests.{tests}
+use Rattle.std.proofs.lemmas.Iterator.{YieldsList-from_slice}
+use Rattle.std.proofs.lemmas.Iterator.Consumers.{count_from_yields_List}
+use Rattle.std.proofs.lemmas.Iterator.Search.{YieldsList-from_take_while}
+use Rattle.std.proofs.lemmas.List.Folds.{length-prefix_len}
 use Rattle.paper.specs.Tokens.{goes_on}
-use Rattle.tokens.proofs.Runs.{span_end, span_stop, span_step}
+use Rattle.tokens.specs.Class.{class_of, goes_on_of}
+use Rattle.tokens.proofs.Runs.{span_is, span_same}
+use Rattle.tokens.proofs.Classes.{goes_on_is}
 use Rattle.tokens.proofs.names.name_len.Goals as goal
 
-pub loop-i-init : goal.loop-i-init
-loop-i-init c = omega arith
-
-pub returns-then-class-b-lt-MINUS : goal.returns-then-class-b-lt-MINUS
-returns-then-class-b-lt-MINUS c =
-    let a = c.args in
-    let w = c.wide-b in
-    let i = c.loop-i.i in
-    omega (
-      arith,
-      c.loop-i.invariant,
-      span_stop goes_on a.s.now i c.loop-i-test.true
-          (ap goes_on (sym w.ensures.0) ∙ sym (c.requires w.result w.ensures.1).goes_on_is ∙ lt-leb 52 _ c.if-class-b-lt-MINUS.true),
-    )
-
-pub loop-i-preserved : goal.loop-i-preserved
-loop-i-preserved c =
-    let a = c.args in
-    let w = c.wide-b in
-    let i = c.loop-i.i in
-    omega (
-      arith,
-      c.loop-i.invariant,
-      span_step goes_on a.s.now i c.loop-i-test.true
-          (ap goes_on (sym w.ensures.0) ∙ sym (c.requires w.result w.ensures.1).goes_on_is ∙ le-leb 52 _ c.if-class-b-lt-MINUS.false),
-    )
-
 pub returns : goal.returns
-returns c = omega (arith, c.loop-i.invariant, span_end goes_on c.args.s.now c.loop-i.i c.loop-i-test.false)
+returns c =
+    let s = c.args.s.now in
+    count_from_yields_List c.take_while.result _ c.count.ensures.ran
+    (YieldsList-from_take_while _ (λ b. goes_on_of (class_of b)) (YieldsList-from_slice s cc) c.take_while.ensures.closure c.take_while.ensures.done (λ x b q k. search (rules, tests)))
+    ∙ length-prefix_len (λ (b : ℕ). goes_on_of (class_of b)) s ∙ span_is (λ b. goes_on_of (class_of b)) s ∙ span_same (λ b. goes_on_of (class_of b)) goes_on goes_on_is s

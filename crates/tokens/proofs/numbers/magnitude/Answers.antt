@@ -1,51 +1,39 @@
 -- `tokens::numbers::magnitude` meets its contract. Assumes nothing.
-use borrow.Author.Rules.{rules}
-use native.Mathlib.Omega.{arith}
-use mathlib.Core.Path.{refl, sym, ap, ◌∙◌}
-use Prim.Native.Nat.{ℕ, ◌+◌, ◌*◌}
-use lib.ListN.{drop}
+use Rattle.std.proofs.Common.{◌≡◌, ℕ, ◌+◌, ◌-◌, ◌*◌, drop, get_or, ◌∙◌, ap, arith}
+use Rattle.std.proofs.lemmas.Grind.{common_steps}
+use Rattle.paper.specs.Bytes.{when◌then◌else◌}
 use Rattle.paper.specs.Tokens.{count}
-use Rattle.tokens.proofs.Digits.{count_more, at_least, count_end, too_large, fits}
+use Rattle.tokens.specs.Numbers.{amount_of}
+use Rattle.tokens.proofs.Digits.{at_least, count_more, count_end, too_large}
 use Rattle.tokens.proofs.numbers.magnitude.Goals as goal
 
-pub loop-i-init : goal.loop-i-init
-loop-i-init c = (search rules, search rules, refl)
+pub returns-in_err-checked_mul : goal.returns-in_err-checked_mul
+returns-in_err-checked_mul c =
+    let l = c.loop-b in
+    let least = at_least c.args.digits.now l.value l.b-index _ c.loop-b-test.true l.invariant in
+    let mul = c.in_err-checked_mul.ensures in
+    c.from_residual.ensures ∙ too_large c.args.limit (count 0 c.args.digits.now) (omega arith)
 
-pub returns-then-v-gt922337203685477580 : goal.returns-then-v-gt922337203685477580
-returns-then-v-gt922337203685477580 c =
-    let l = c.loop-i in
-    let a = c.args in
-    too_large a.limit (count 0 (drop a.from a.s.now)) (omega (arith, c.requires.limit_bound, at_least a.s.now l.v l.i _ c.loop-i-test.true l.invariant.2))
+pub returns-in_err-value : goal.returns-in_err-value
+returns-in_err-value c =
+    let l = c.loop-b in
+    let least = at_least c.args.digits.now l.value l.b-index _ c.loop-b-test.true l.invariant in
+    let mul = c.in_ok-checked_mul.ensures.1 in
+    let add = c.in_err-value.ensures in
+    c.from_residual-in_err-value.ensures ∙ too_large c.args.limit (count 0 c.args.digits.now) (omega arith)
 
-pub overflow_mul-v : goal.overflow_mul-v
-overflow_mul-v c = omega arith
-
-pub digit_value-requires : goal.digit_value-requires
-digit_value-requires c =
-    let l = c.loop-i in
-    c.requires.digits l.i l.invariant.0 c.loop-i-test.true
-
-pub overflow_add-v : goal.overflow_add-v
-overflow_add-v c = omega arith
-
-pub loop-i-preserved : goal.loop-i-preserved
-loop-i-preserved c =
-    let l = c.loop-i in
-    let a = c.args in (
-      omega (arith, l.invariant.0),
-      omega arith,
-      l.invariant.2 ∙ count_more a.s.now l.v l.i c.loop-i-test.true
-          ∙ ap (λ (d : ℕ). count (l.v * 10 + d) (drop (l.i + 1) a.s.now)) (sym c.digit_value.ensures.0),
-    )
-
-pub returns-then-limit-v : goal.returns-then-limit-v
-returns-then-limit-v c =
-    let l = c.loop-i in
-    let a = c.args in
-    rw (count_end a.s.now l.v l.i (count 0 (drop a.from a.s.now)) c.loop-i-test.false l.invariant.2) (too_large a.limit l.v c.if-limit-v.true)
+pub loop-b-preserved : goal.loop-b-preserved
+loop-b-preserved c =
+    let l = c.loop-b in
+    let d = c.args.digits.now in
+    let mul = c.in_ok-checked_mul.ensures.1 in
+    let add = c.in_ok-value.ensures.1 in
+    let next : l.value * 10 + (get_or d l.b-index 0 - 48) ≡ c.in_ok-value.value = omega arith in
+    l.invariant ∙ count_more d l.value l.b-index c.loop-b-test.true ∙ ap (λ (v : ℕ). count v (drop (l.b-index + 1) d)) next
 
 pub returns : goal.returns
+unfolding amount_of when◌then◌else◌
 returns c =
-    let l = c.loop-i in
-    let a = c.args in
-    rw (count_end a.s.now l.v l.i (count 0 (drop a.from a.s.now)) c.loop-i-test.false l.invariant.2) (fits a.limit l.v c.if-limit-v.false)
+    let l = c.loop-b in
+    let n = count_end c.args.digits.now l.value l.b-index _ c.loop-b-test.false l.invariant in
+    rw n (grind (arith, common_steps))

@@ -17,7 +17,7 @@ fraction-is c = c.fraction_len.ensures ∙ ap fraction (rest c.args.s.now c.args
 in_source : (c : After-fraction_len) → c.args.n + c.fraction_len.result ≤ length c.args.s.now
 in_source c =
     let a = c.args in
-    omega (arith, fraction-is c, fraction_le (drop a.n a.s.now), length-drop a.n a.s.now, c.requires.n_in_bounds)
+    omega (arith, fraction-is c, fraction_le (drop a.n a.s.now), length-drop a.n a.s.now, c.requires)
 
 pub overflow_add-m : goal.overflow_add-m
 overflow_add-m c = omega (arith, in_source (goal.at.overflow_add-m c).After-fraction_len, c.well_formed)

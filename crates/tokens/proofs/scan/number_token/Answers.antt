@@ -1,57 +1,53 @@
 -- `tokens::scan::number_token` meets its contract. Assumes nothing.
-use native.Mathlib.Omega.{arith}
-use mathlib.Core.Path.{refl, sym, ap, ◌∙◌, subst}
-use Prim.Native.Nat.{ℕ, ◌≤◌}
-use native.Mathlib.Nat.{sub-zero}
-use borrow.Author.Tests.{not-true, not-false}
-use lib.ListN.{length, take}
-use Rattle.paper.specs.Bytes.{at, is}
-use Rattle.paper.specs.Scanner.{sign}
-use Rattle.tokens.specs.Numbers.{Digits}
+use Rattle.std.proofs.Common.{ℕ, ◌≤◌, length, take, refl, sym, ap, ◌∙◌, arith}
+use lib.Seq.{length-take-le}
 use Rattle.tokens.specs.Scans.{integer_front}
-use Rattle.tokens.proofs.Digits.{whole_le, whole_digits}
+use Rattle.tokens.proofs.Digits.{whole_le, whole_digits, number_le}
 use Rattle.tokens.proofs.Fronts.{number_none, number_follows, number_decimal, number_long, number_integer, same_number}
 use Rattle.tokens.proofs.scan.number_token.Goals as goal
-use Rattle.tokens.proofs.scan.number_token.Goals.{After-whole_len-n}
+use Rattle.tokens.proofs.scan.number_token.Goals.{After-whole_len-whole, After-number_len-len}
 
-in_source : (c : After-whole_len-n) → c.whole_len-n.result ≤ length c.args.s.now
-in_source c = omega (arith, c.whole_len-n.ensures, whole_le c.args.s.now)
+in_source : (c : After-whole_len-whole) → c.whole_len-whole.result ≤ length c.args.s.now
+in_source c = omega (arith, c.whole_len-whole.ensures, whole_le c.args.s.now)
 
-pub returns-then-n-eq0 : goal.returns-then-n-eq0
-returns-then-n-eq0 c = let s = c.args.s.now in number_none _ _ s c.if-n-eq0.true ∙ same_number _ _ s c.whole_len-n.ensures refl
+-- the number is no shorter than its integer part
+longer : (c : After-number_len-len) → c.whole_len-whole.result ≤ c.number_len-len.result
+longer c = let s = c.args.s.now in omega (arith, c.number_len-len.ensures, number_le c.whole_len-whole.result s (omega (arith, c.whole_len-whole.ensures, whole_le s)))
 
-pub number_len-m-requires : goal.number_len-m-requires
-number_len-m-requires c = record { classed = c.requires; n_in_bounds = in_source (goal.at.number_len-m-requires c).After-whole_len-n }
+pub returns-then-whole-eq0 : goal.returns-then-whole-eq0
+returns-then-whole-eq0 c = let s = c.args.s.now in number_none _ _ s c.if-whole-eq0.true ∙ same_number _ _ s c.whole_len-whole.ensures refl
+
+pub number_len-len-requires : goal.number_len-len-requires
+number_len-len-requires c = in_source (goal.at.number_len-len-requires c).After-whole_len-whole
 
 pub returns-then-not-ends_at : goal.returns-then-not-ends_at
 returns-then-not-ends_at c =
     let s = c.args.s.now in
-    number_follows _ _ s c.if-n-eq0.false (sym c.ends_at.ensures ∙ not-true _ c.if-not-ends_at.true-raw) ∙ same_number _ _ s c.whole_len-n.ensures c.number_len-m.ensures
+    number_follows _ _ s c.if-whole-eq0.false (sym c.if-not-ends_at.ensures) ∙ same_number _ _ s c.whole_len-whole.ensures c.number_len-len.ensures
 
 pub slice_bounds-integer_token-end : goal.slice_bounds-integer_token-end
-slice_bounds-integer_token-end c = omega (arith, in_source (goal.at.slice_bounds-integer_token-end c).After-whole_len-n)
+slice_bounds-integer_token-end c =
+    let l = in_source (goal.at.slice_bounds-integer_token-end c).After-whole_len-whole in
+    sym (length-take-le c.number_len-len.result c.args.s.now (omega arith))
 
 pub integer_token-requires : goal.integer_token-requires
-integer_token-requires c =
-    let s = c.args.s.now in
-    let n = c.whole_len-n.result in
-    subst (λ (k : ℕ). Digits (take k s) (sign (is "-") (at (take k s) 0))) (sym (sub-zero n)) (whole_digits n s c.whole_len-n.ensures)
+integer_token-requires c = whole_digits c.number_len-len.result c.args.s.now (c.if-len-whole.true ∙ c.whole_len-whole.ensures)
 
-pub returns-then-m-n : goal.returns-then-m-n
-returns-then-m-n c =
+pub returns-then-len-whole : goal.returns-then-len-whole
+returns-then-len-whole c =
     let s = c.args.s.now in
-    c.integer_token.ensures ∙ ap (λ (k : ℕ). integer_front (take k s)) (sub-zero c.whole_len-n.result)
-    ∙ number_integer _ _ s c.if-n-eq0.false (sym c.ends_at.ensures ∙ not-false _ c.if-not-ends_at.false-raw) c.if-m-n.true (in_source (goal.at.returns-then-m-n c).After-whole_len-n)
-    ∙ same_number _ _ s c.whole_len-n.ensures c.number_len-m.ensures
+    let l = in_source (goal.at.returns-then-len-whole c).After-whole_len-whole in
+    c.integer_token.ensures ∙ ap (λ (n : ℕ). integer_front (take n s)) c.if-len-whole.true
+    ∙ number_integer _ _ s c.if-whole-eq0.false (sym c.if-not-ends_at.ensures) (omega arith) l ∙ same_number _ _ s c.whole_len-whole.ensures c.number_len-len.ensures
 
-pub returns-then-m-gt4095 : goal.returns-then-m-gt4095
-returns-then-m-gt4095 c =
+pub returns-then-len-gt-LONGEST : goal.returns-then-len-gt-LONGEST
+returns-then-len-gt-LONGEST c =
     let s = c.args.s.now in
-    number_long _ _ s c.if-n-eq0.false (sym c.ends_at.ensures ∙ not-false _ c.if-not-ends_at.false-raw) c.if-m-n.false c.if-m-gt4095.true
-    ∙ same_number _ _ s c.whole_len-n.ensures c.number_len-m.ensures
+    let l = longer (goal.at.returns-then-len-gt-LONGEST c).After-number_len-len in
+    number_long _ _ s c.if-whole-eq0.false (sym c.if-not-ends_at.ensures) (omega arith) c.if-len-gt-LONGEST.true ∙ same_number _ _ s c.whole_len-whole.ensures c.number_len-len.ensures
 
-pub returns : goal.returns
-returns c =
+pub returns-else-len-gt-LONGEST : goal.returns-else-len-gt-LONGEST
+returns-else-len-gt-LONGEST c =
     let s = c.args.s.now in
-    number_decimal _ _ s c.if-n-eq0.false (sym c.ends_at.ensures ∙ not-false _ c.if-not-ends_at.false-raw) c.if-m-n.false c.if-m-gt4095.false
-    ∙ same_number _ _ s c.whole_len-n.ensures c.number_len-m.ensures
+    let l = longer (goal.at.returns-else-len-gt-LONGEST c).After-number_len-len in
+    number_decimal _ _ s c.if-whole-eq0.false (sym c.if-not-ends_at.ensures) (omega arith) c.if-len-gt-LONGEST.false ∙ same_number _ _ s c.whole_len-whole.ensures c.number_len-len.ensures

@@ -1,61 +1,70 @@
 -- `tokens::scan::scan_front` meets its contract. Assumes nothing.
-use native.Mathlib.Omega.{arith}
-use mathlib.Core.Path.{◌≡◌, sym, ap, ◌∙◌}
-use mathlib.Core.Bool.{false, ◌||◌}
-use Prim.Native.Nat.{ℕ}
-use borrow.Author.Tests.{eq-eqb, ne_eqb, le-leb, lt-leb}
-use Rattle.paper.specs.Bytes.{at, is}
-use Rattle.paper.specs.Tokens.{starts, digit}
-use Rattle.tokens.specs.declared.Kind.TheVariants.{Mark}
-use Rattle.tokens.specs.declared.scan.Front.TheVariants.{Read}
+use Rattle.std.proofs.Common.{◌≡◌, List, [], ◌∷◌, ℕ, length, Some, None, refl, sym, subst, ap, ◌∙◌, inl, inr, arith}
+use Rattle.std.specs.Prelude.{slice_get}
+use Rattle.std.specs.Prelude as Rust
+use Rattle.paper.specs.Scanner.{scan}
+use Rattle.tokens.specs.declared.class.Class.{Class}
+use Rattle.tokens.specs.declared.class.Class.TheVariants.{Start, Digit, Minus, Quote, Mark, Blank, Other}
+use Rattle.tokens.specs.declared.Kind.TheVariants as kinds
+use Rattle.tokens.specs.declared.Kind.TheVariants.{End}
 use Rattle.tokens.specs.Kinds.{kind_of}
-use Rattle.tokens.specs.Scans.{scan_of}
-use Rattle.spelling.proofs.At.{at_in}
+use Rattle.tokens.specs.Class.{class_of}
+use Rattle.tokens.specs.Scans.{front_of}
 use Rattle.spelling.proofs.Decodes.{scan_string}
-use Rattle.tokens.proofs.Fronts.{scan_end, scan_name, scan_number, scan_mark, scan_other, number_first, no_number}
+use Rattle.tokens.proofs.Classes.{at_some}
+use Rattle.tokens.proofs.Fronts.{read, Scans, scans, scan_end}
 use Rattle.tokens.proofs.scan.scan_front.Goals as goal
-use Rattle.tokens.proofs.scan.scan_front.Goals.{Else-c-eq-QUOTE, Else-c-eq-START, Else-c-ge-MINUS}
 
--- what the tests on the way say of the first byte
-no_start : (c : Else-c-eq-START) → starts (at c.args.s.now 0) ≡ false
-no_start c = sym c.class_at-c.ensures.start_is ∙ ne_eqb _ 54 c.if-c-eq-START.false
+-- the source begins with a byte of this class
+by_class : (s : List ℕ) (b : ℕ) (k c : Class) → Some b ≡ slice_get s 0 → c ≡ class_of b → c ≡ k → Scans s k
+by_class [] b k c e f g = cc
+by_class (x ∷ s) b k c e f g =
+    let q : class_of x ≡ k = ap class_of (at_some (x ∷ s) 0 b e) ∙ sym f ∙ g in
+    subst (Scans (x ∷ s)) q (scans (x ∷ s) (λ h. omega arith))
 
-no_digit : (c : Else-c-ge-MINUS) → (digit (at c.args.s.now 0) || is "-" (at c.args.s.now 0)) ≡ false
-no_digit c = no_number (at c.args.s.now 0) (sym c.class_at-c.ensures.goes_on_is ∙ lt-leb 52 _ c.if-c-ge-MINUS.false)
+not_empty : (s : List ℕ) (b : ℕ) → Some b ≡ slice_get s 0 → length s ≡ 0 → ⊥
+not_empty [] b e h = cc
+not_empty (x ∷ s) b e h = omega arith
 
-no_quote : (c : Else-c-eq-QUOTE) → is "\"" (at c.args.s.now 0) ≡ false
-no_quote c = sym c.class_at-c.ensures.quote_is ∙ ne_eqb _ 51 c.if-c-eq-QUOTE.false
+pub returns-in_default : goal.returns-in_default
+returns-in_default c = empty c.args.s.now c.in_default.ensures.value
+  where
+    empty : (s : List ℕ) → ◌≡◌ {A = Rust.Option ℕ} None (slice_get s 0) → read End 0 ≡ front_of (scan s)
+    empty [] e = scan_end [] refl
+    empty (x ∷ s) e = cc
 
-pub returns-then-s-eq0 : goal.returns-then-s-eq0
-returns-then-s-eq0 c = scan_end c.args.s.now c.if-s-eq0.true
-
-pub returns-then-c-eq-START : goal.returns-then-c-eq-START
-returns-then-c-eq-START c =
+pub returns-in-Start : goal.returns-in-Start
+returns-in-Start c =
     let s = c.args.s.now in
-    c.name_token.ensures ∙ ap scan_of (sym (scan_name s c.if-s-eq0.false (sym c.class_at-c.ensures.start_is ∙ eq-eqb _ 54 c.if-c-eq-START.true)))
+    c.name_token.ensures ∙ ap front_of (sym (by_class s c.in-Some.first.now Start _ c.in-Some.ensures.value c.of.ensures c.in-Start.is))
 
-pub returns-then-c-ge-MINUS : goal.returns-then-c-ge-MINUS
-returns-then-c-ge-MINUS c =
+pub returns-in-Digit : goal.returns-in-Digit
+returns-in-Digit c =
     let s = c.args.s.now in
-    let e = no_start (goal.at.returns-then-c-ge-MINUS c).Else-c-eq-START in
+    let b = c.in-Some.first.now in
+    let first = c.in-Some.ensures.value in
     c.number_token.ensures
-    ∙ ap scan_of (sym (scan_number s c.if-s-eq0.false e (number_first (at s 0) (sym c.class_at-c.ensures.goes_on_is ∙ le-leb 52 _ c.if-c-ge-MINUS.true) e)))
+    ∙ ap front_of (sym (elim c.in-Digit.is [ inl e ↦ by_class s b Digit _ first c.of.ensures e | inr e ↦ by_class s b Minus _ first c.of.ensures e ]))
 
-pub returns-then-c-eq-QUOTE : goal.returns-then-c-eq-QUOTE
-returns-then-c-eq-QUOTE c =
+pub returns-in-Quote : goal.returns-in-Quote
+returns-in-Quote c =
     let s = c.args.s.now in
-    c.string_token.ensures
-    ∙ ap scan_of (sym (scan_string s c.if-s-eq0.false (no_start (goal.at.returns-then-c-eq-QUOTE c).Else-c-eq-START) (no_digit (goal.at.returns-then-c-eq-QUOTE c).Else-c-ge-MINUS) (sym c.class_at-c.ensures.quote_is ∙ eq-eqb _ 51 c.if-c-eq-QUOTE.true)))
+    let b = c.in-Some.first.now in
+    let q = by_class s b Quote _ c.in-Some.ensures.value c.of.ensures c.in-Quote.is in
+    c.string_token.ensures ∙ ap front_of (sym (scan_string s (not_empty s b c.in-Some.ensures.value) q.0 q.1 q.2))
 
-pub returns-then-c-eq-MARK : goal.returns-then-c-eq-MARK
-unfolding scan_of kind_of
-returns-then-c-eq-MARK c =
+pub returns-in-Mark : goal.returns-in-Mark
+unfolding front_of kind_of
+returns-in-Mark c =
     let s = c.args.s.now in
-    ap (λ (b : ℕ). Read (Mark b) 1) (at_in s 0 (omega (arith, c.if-s-eq0.false)))
-    ∙ ap scan_of (sym (scan_mark s c.if-s-eq0.false (no_start (goal.at.returns-then-c-eq-MARK c).Else-c-eq-START) (no_digit (goal.at.returns-then-c-eq-MARK c).Else-c-ge-MINUS) (no_quote (goal.at.returns-then-c-eq-MARK c).Else-c-eq-QUOTE) (sym c.class_at-c.ensures.mark_is ∙ eq-eqb _ 50 c.if-c-eq-MARK.true)))
+    let b = c.in-Some.first.now in
+    let q = by_class s b Mark _ c.in-Some.ensures.value c.of.ensures c.in-Mark.is in
+    ap (λ (x : ℕ). read (kinds.Mark x) 1) (sym (at_some s 0 b c.in-Some.ensures.value)) ∙ ap front_of (sym q)
 
-pub returns : goal.returns
-unfolding scan_of
-returns c =
+pub returns-in-Blank : goal.returns-in-Blank
+unfolding front_of
+returns-in-Blank c =
     let s = c.args.s.now in
-    ap scan_of (sym (scan_other s c.if-s-eq0.false (no_start (goal.at.returns c).Else-c-eq-START) (no_digit (goal.at.returns c).Else-c-ge-MINUS) (no_quote (goal.at.returns c).Else-c-eq-QUOTE) (sym c.class_at-c.ensures.mark_is ∙ ne_eqb _ 50 c.if-c-eq-MARK.false)))
+    let b = c.in-Some.first.now in
+    let first = c.in-Some.ensures.value in
+    ap front_of (sym (elim c.in-Blank.is [ inl e ↦ by_class s b Blank _ first c.of.ensures e | inr e ↦ by_class s b Other _ first c.of.ensures e ]))
