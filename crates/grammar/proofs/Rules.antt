@@ -1,4 +1,4 @@
--- The rules by which each reader's contract follows from those of its parts, one for each way through its code.
+pub mod Refusals
 pub mod Marks
 pub mod Paths
 pub mod Basics
@@ -8,5 +8,6 @@ pub mod Answers
 pub mod Items
 pub mod Blocks
 pub mod Statements
-pub mod Told
 pub mod Whole
+pub mod Told
+pub mod Fronts

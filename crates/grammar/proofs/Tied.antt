@@ -276,7 +276,6 @@ module _ (s : List ℕ) where
 -- ---- the whole description
 
 start : (s : List ℕ) → Stands s (record { place = 0; rest = s })
-unfolding here
 start s = record { is = refl }
 
 alike : (s : List ℕ) → Alike (DraftsOf s) (drafts s) (read s)

@@ -1,5 +1,6 @@
 pub mod Drafts
 pub mod Places
+pub mod Refusals
 pub mod Ties
 pub mod Seen
 pub mod Paths

@@ -4,15 +4,17 @@ use Rattle.std.proofs.lemmas.List.Edits.{sets}
 use Rattle.paper.specs.Bytes.{when◌then◌else◌}
 use Rattle.paper.specs.Layout.{Row, number, row_bytes}
 use Rattle.paper.specs.StepLayout.{step_row}
+use Rattle.kinds.specs.Numbers.{kind_number, step_number}
+use Rattle.kinds.specs.declared.Step.{Step}
 use Rattle.grammar.specs.Drafts.{Draft}
 use Rattle.grammar.specs.declared.draft.Entry.{Entry}
 
 abbrev pub entry_row : Entry → Row
-entry_row e = step_row e.step e.kind (number e.path) e.span (number e.value) e.place
+entry_row e = step_row (step_number e.step) (kind_number e.kind) (number e.path) e.span (number e.value) e.place
 
 -- a step with a path and no more
-abbrev pub path_row : ℕ → ℕ → Row
-path_row i p = step_row i 0 (number p) 0 (number 0) p
+abbrev pub path_row : Step → ℕ → Row
+path_row i p = step_row (step_number i) 0 (number p) 0 (number 0) p
 
 -- the row as record number n, where it is one of those that are kept
 unfoldable pub put_row : List ℕ → ℕ → Row → List ℕ

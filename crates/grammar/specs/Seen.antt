@@ -1,48 +1,21 @@
 -- What the readers of single tokens answer, by cases. Assumes nothing.
-use Rattle.std.specs.Prelude.{ℕ, ◌+◌, ◌≤◌, ◌≡◌, true, false, List, length, ℤ, eqb}
+use Rattle.std.specs.Prelude.{ℕ, ◌+◌, ◌≤◌, ◌≡◌, true, false, List, length, ℤ, Result, Ok, Err, Option, Some, None}
 use Prim.Native.Char.{Char, code}
-use Rattle.paper.specs.Bytes.{bytes, when◌then◌else◌}
-use Rattle.paper.specs.Answer.{Answer, ok, refused, ◌>>=◌, demand}
+use Rattle.paper.specs.Answer.{Answer, ◌>>=◌, demand}
 use Rattle.paper.specs.Syntax.{integer, decimal, string}
 use Rattle.paper.specs.Tokens.{Token, name, literal, mark, end, is_name, is_mark, Here}
 use Rattle.paper.specs.Scanner.{next}
-use Rattle.paper.specs.Reader.{expect, is_word, is_end}
+use Rattle.paper.specs.Reader.{is_end}
 use Rattle.paper.specs.Layout.{complement}
+use Rattle.refusal.specs.declared.Refusal.{Refusal}
+use Rattle.refusal.specs.declared.Reason.TheVariants.{Unexpected}
+use Rattle.tokens.specs.Kinds.{spelling}
 use Rattle.tokens.specs.declared.Kind.{Kind}
 use Rattle.tokens.specs.declared.Kind.TheVariants as kinds
+use Rattle.tokens.specs.declared.Token.{Token as Read}
+use Rattle.grammar.specs.declared.token.Spot.{Spot}
 use Rattle.grammar.specs.Places.{here, Shown, Stood}
-use Rattle.grammar.specs.declared.token.Word.{Word}
-use Rattle.grammar.specs.declared.token.Word.TheVariants.{Extends, Data, Null, True, False, Other}
-use Rattle.grammar.specs.declared.token.Literal.{Literal}
-use Rattle.grammar.specs.declared.token.Literal.TheVariants.{Integer, Decimal, Text}
-use Rattle.grammar.specs.declared.token.Seen.{Seen}
-use Rattle.grammar.specs.declared.token.Seen.TheVariants.{Name, Reserved, Written, Mark, End, Fault}
-use Rattle.grammar.specs.declared.token.Ending.{Ending}
-use Rattle.grammar.specs.declared.token.Ending.TheVariants.{Ended, Refused}
-use Rattle.grammar.specs.declared.token.Took.{Took}
-use Rattle.grammar.specs.declared.token.Took.TheVariants.{At, Missing}
-use Rattle.grammar.specs.declared.token.Ahead.{Ahead}
-use Rattle.grammar.specs.declared.token.Ahead.TheVariants.{Yes, No, Fault as Faulty}
-
--- a reserved word by its place in their list
-unfoldable pub word_of : ℕ → Word
-word_of i =
-    when eqb i 0 then Extends else
-    when eqb i 1 then Data else
-    when eqb i 2 then Null else
-    when eqb i 3 then True else
-    when eqb i 4 then False else
-    Other
-
--- a token's kind with its places
-abbrev pub seen_of : Kind → ℕ → ℕ → Seen
-seen_of kinds.Name p e = Name p e
-seen_of (kinds.Word i) p e = Reserved (word_of i) p e
-seen_of (kinds.Integer x) p e = Written (Integer x) p e
-seen_of kinds.Decimal p e = Written Decimal p e
-seen_of (kinds.Text n) p e = Written (Text n) p e
-seen_of (kinds.Mark b) p e = Mark b p e
-seen_of kinds.End p e = End p
+use Rattle.grammar.specs.Refusals.{Refuses}
 
 -- a name that is not reserved
 pub record NameSeen (s : List ℕ) (at p e : ℕ) : Type 0 where
@@ -50,17 +23,6 @@ pub record NameSeen (s : List ℕ) (at p e : ℕ) : Type 0 where
   pub shown : Shown s at (name spelt) p e
   pub free : is_name (name spelt) ≡ true
   pub long : p + length spelt ≡ e
-
--- a reserved word that nothing begins with
-pub record OtherSeen (s : List ℕ) (at p e : ℕ) : Type 0 where
-  pub spelt : List ℕ
-  pub shown : Shown s at (name spelt) p e
-  pub taken : is_name (name spelt) ≡ false
-  pub no_extends : is_word "extends" (name spelt) ≡ false
-  pub no_data : is_word "DATA" (name spelt) ≡ false
-  pub no_null : is_word "NULL" (name spelt) ≡ false
-  pub no_true : is_word "true" (name spelt) ≡ false
-  pub no_false : is_word "false" (name spelt) ≡ false
 
 pub record IntegerSeen (s : List ℕ) (at p e x : ℕ) : Type 0 where
   pub number : ℤ
@@ -78,32 +40,30 @@ pub record TextSeen (s : List ℕ) (at p e n : ℕ) : Type 0 where
   pub size : n ≡ length said
   pub short : p + n ≤ e
 
-abbrev pub WordIs : List ℕ → ℕ → ℕ → ℕ → Word → Type 0
-WordIs s at p e Extends = Shown s at (name (bytes "extends")) p e
-WordIs s at p e Data = Shown s at (name (bytes "DATA")) p e
-WordIs s at p e Null = Shown s at (name (bytes "NULL")) p e
-WordIs s at p e True = Shown s at (name (bytes "true")) p e
-WordIs s at p e False = Shown s at (name (bytes "false")) p e
-WordIs s at p e Other = OtherSeen s at p e
-
-abbrev pub LiteralIs : List ℕ → ℕ → ℕ → ℕ → Literal → Type 0
-LiteralIs s at p e (Integer x) = IntegerSeen s at p e x
-LiteralIs s at p e Decimal = DecimalSeen s at p e
-LiteralIs s at p e (Text n) = TextSeen s at p e n
+-- the token of this kind, which stands from p to e, is paper's next token from `at` on
+abbrev pub KindIs : List ℕ → ℕ → ℕ → ℕ → Kind → Type 0
+KindIs s at p e kinds.Name = NameSeen s at p e
+KindIs s at p e (kinds.Word w) = Shown s at (name (spelling w)) p e
+KindIs s at p e (kinds.Integer x) = IntegerSeen s at p e x
+KindIs s at p e kinds.Decimal = DecimalSeen s at p e
+KindIs s at p e (kinds.Text n) = TextSeen s at p e n
+KindIs s at p e (kinds.Mark b) = Shown s at (mark b) p e
+KindIs s at p e kinds.End = Stood s at end p
 
 -- the token that is seen from `at` on is paper's next token
-abbrev pub SeenIs : List ℕ → ℕ → Seen → Type 0
-SeenIs s at (Name p e) = NameSeen s at p e
-SeenIs s at (Reserved w p e) = WordIs s at p e w
-SeenIs s at (Written l p e) = LiteralIs s at p e l
-SeenIs s at (Mark b p e) = Shown s at (mark b) p e
-SeenIs s at (End p) = Stood s at end p
-SeenIs s at (Fault n p) = next (here s at) ≡ refused n p
+abbrev pub SeenIs : List ℕ → ℕ → Result Read Refusal → Type 0
+SeenIs s at (Ok t) = KindIs s at t.at t.end t.kind
+SeenIs s at (Err e) = Refuses (next (here s at)) e
 
--- the mark b is taken, or what paper's reader expects is not there
-abbrev pub TookIs : List ℕ → ℕ → ℕ → Took → Type 0
-TookIs s at b (At p e) = Shown s at (mark b) p e
-TookIs s at b (Missing n p) = (c : Char) → code c ≡ b → expect c (here s at) ≡ refused n p
+-- what has to stand next does not: there is no token, or one of another kind, which is refused where it stands
+pub data Unlike (s : List ℕ) (at : ℕ) (k : Kind) (e : Refusal) : Type 0 where
+  absent : Refuses (next (here s at)) e → Unlike s at k e
+  another : (j : Kind) (end : ℕ) → KindIs s at e.place end j → (j ≡ k → ⊥) → e.reason ≡ Unexpected → Unlike s at k e
+
+-- the token of this kind that has to stand next is taken, or refused
+abbrev pub ExpectedIs : List ℕ → ℕ → Kind → Result Spot Refusal → Type 0
+ExpectedIs s at k (Ok m) = KindIs s at m.place m.next k
+ExpectedIs s at k (Err e) = Unlike s at k e
 
 -- a token that is not the mark b
 pub record NotMark (s : List ℕ) (at b : ℕ) : Type 0 where
@@ -112,17 +72,13 @@ pub record NotMark (s : List ℕ) (at b : ℕ) : Type 0 where
   pub stood : Stood s at token place
   pub other : (c : Char) → code c ≡ b → is_mark c token ≡ false
 
-abbrev pub FollowsIs : List ℕ → ℕ → ℕ → Ahead → Type 0
-FollowsIs s at b (Yes p e) = Shown s at (mark b) p e
-FollowsIs s at b No = NotMark s at b
-FollowsIs s at b (Faulty n p) = next (here s at) ≡ refused n p
+abbrev pub FollowsIs : List ℕ → ℕ → ℕ → Result (Option Spot) Refusal → Type 0
+FollowsIs s at b (Ok (Some m)) = Shown s at (mark b) m.place m.next
+FollowsIs s at b (Ok None) = NotMark s at b
+FollowsIs s at b (Err e) = Refuses (next (here s at)) e
 
 -- the end has to stand here
 unfoldable pub ends : Here → Answer (Unit {0})
 ends at = do
   (t, h, _) ← next at
   demand (is_end t) 3 h.place
-
-abbrev pub EndedIs : List ℕ → ℕ → Ending → Type 0
-EndedIs s at Ended = ends (here s at) ≡ ok tt
-EndedIs s at (Refused n p) = ends (here s at) ≡ refused n p

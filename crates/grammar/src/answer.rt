@@ -1,6 +1,6 @@
-// What reading a whole description comes to: how many steps there are and how many bytes of text they will take, or the refusal.
+// What reading a whole description leaves: how many steps there are, and how many bytes of text they will take.
 #[derive(Clone, Copy)]
-pub enum Read {
-    Done { steps: usize, text: usize },
-    Refused { number: usize, place: usize },
+pub struct Drafts {
+    pub steps: usize,
+    pub text: usize,
 }

@@ -1,10 +1,13 @@
 // Basics, as far as they can be read without a stack: whole, or up to a vector's bracket.
 ghost use Rattle.std.specs.Prelude.{◌≡◌, ◌≤◌, length};
-ghost use Rattle.grammar.specs.Seen.{WordIs};
 ghost use Rattle.grammar.specs.Basics.{FoundIs, laid_of};
+ghost use Rattle.grammar.specs.declared.basic.Laid.TheVariants.{Plain};
 
-use crate::path::{Path, read_path};
-use crate::token::{Literal, Seen, Word, token_at};
+use crate::path::read_path;
+use crate::token::{token_at, unexpected};
+use kinds::Kind;
+use refusal::Refusal;
+use tokens::{Kind as TokenKind, Word};
 
 // The basic kinds with their data. A text is kept as the place where it stands and the bytes that it will take.
 #[derive(Clone, Copy)]
@@ -18,88 +21,72 @@ pub enum Basic {
     Vector { place: usize },
 }
 
-// What was found, and where the source goes on; or the number and the place of the refusal.
+// What was found, and where the source goes on.
 #[derive(Clone, Copy)]
-pub enum Found {
-    Basic(Basic, usize),
-    Fault(usize, usize),
+pub struct FoundBasic {
+    pub basic: Basic,
+    pub next: usize,
 }
 
-fn of_word(src: &[u8], at: usize, word: Word, place: usize, next: usize) -> Found
-    requires { WordIs src.now at place next word }
-    ensures { FoundIs src.now at result }
-{
-    match word {
-        Word::True => Found::Basic(Basic::Boolean(true), next),
-        Word::False => Found::Basic(Basic::Boolean(false), next),
-        Word::Null => Found::Basic(Basic::Null, next),
-        Word::Data => match read_path(src, next) {
-            Path::Whole { next: past, size } => Found::Basic(
-                Basic::Data { place: next, size },
-                past,
-            ),
-            Path::Broken { number, place } => Found::Fault(number, place),
-        },
-        Word::Extends => Found::Fault(3, place),
-        Word::Other => Found::Fault(3, place),
-    }
-}
-
-pub(crate) fn find_basic(src: &[u8], at: usize) -> Found
+pub(crate) fn find_basic(src: &[u8], at: usize) -> Result<FoundBasic, Refusal>
     requires { at ≤ length src.now }
     ensures { FoundIs src.now at result }
 {
-    match token_at(src, at) {
-        Seen::Reserved { word, place, next } => of_word(src, at, word, place, next),
-        Seen::Written {
-            literal,
-            place,
-            next,
-        } => match literal {
-            Literal::Integer(bits) => Found::Basic(Basic::Integer(bits), next),
-            Literal::Decimal => Found::Basic(
-                Basic::Decimal {
-                    place,
-                    size: next - place + 2,
-                },
-                next,
-            ),
-            Literal::Text(n) => Found::Basic(Basic::Text { place, size: n + 2 }, next),
-        },
-        Seen::Mark { byte, place, next } => {
-            if byte == b'[' {
-                return Found::Basic(Basic::Vector { place }, next);
+    let token = token_at(src, at)?;
+    let mut next = token.end;
+    let basic = match token.kind {
+        TokenKind::Word(word) => match word {
+            Word::True => Basic::Boolean(true),
+            Word::False => Basic::Boolean(false),
+            Word::Null => Basic::Null,
+            Word::Data => {
+                let path = read_path(src, token.end)?;
+                next = path.next;
+                Basic::Data {
+                    place: token.end,
+                    size: path.size,
+                }
             }
-            Found::Fault(3, place)
-        }
-        Seen::Name { place, next: _ } => Found::Fault(3, place),
-        Seen::End { place } => Found::Fault(3, place),
-        Seen::Fault { number, place } => Found::Fault(number, place),
-    }
+            _ => return Err(unexpected(token.at)),
+        },
+        TokenKind::Integer(bits) => Basic::Integer(bits),
+        TokenKind::Decimal => Basic::Decimal {
+            place: token.at,
+            size: token.end - token.at + 2,
+        },
+        TokenKind::Text(n) => Basic::Text {
+            place: token.at,
+            size: n + 2,
+        },
+        TokenKind::Mark(b'[') => Basic::Vector { place: token.at },
+        _ => return Err(unexpected(token.at)),
+    };
+    Ok(FoundBasic { basic, next })
 }
 
-// A basic as a draft has it: kind, value and size; or a vector, of which only the bracket, at a place, is read.
+// A basic as a draft has it: kind, value and bytes of text; or a vector, of which only the bracket is read.
 #[derive(Clone, Copy)]
 pub enum Laid {
-    Plain(u16, u64, usize),
-    Opened(usize),
+    Plain { kind: Kind, value: u64, size: usize },
+    Opened { place: usize },
+}
+
+fn plain(kind: Kind, value: u64, size: usize) -> Laid
+    ensures { result ≡ Plain kind value size }
+{
+    Laid::Plain { kind, value, size }
 }
 
 pub(crate) fn lay(basic: Basic) -> Laid
     ensures { result ≡ laid_of basic }
 {
     match basic {
-        Basic::Boolean(b) => {
-            if b {
-                return Laid::Plain(1, 1, 0);
-            }
-            Laid::Plain(1, 0, 0)
-        }
-        Basic::Null => Laid::Plain(2, 0, 0),
-        Basic::Integer(bits) => Laid::Plain(3, bits, 0),
-        Basic::Decimal { place, size } => Laid::Plain(4, place as u64, size),
-        Basic::Text { place, size } => Laid::Plain(5, place as u64, size),
-        Basic::Data { place, size } => Laid::Plain(6, place as u64, size),
-        Basic::Vector { place } => Laid::Opened(place),
+        Basic::Boolean(b) => plain(Kind::Boolean, u64::from(b), 0),
+        Basic::Null => plain(Kind::Null, 0, 0),
+        Basic::Integer(bits) => plain(Kind::Integer, bits, 0),
+        Basic::Decimal { place, size } => plain(Kind::Decimal, place as u64, size),
+        Basic::Text { place, size } => plain(Kind::Text, place as u64, size),
+        Basic::Data { place, size } => plain(Kind::Reference, place as u64, size),
+        Basic::Vector { place } => Laid::Opened { place },
     }
 }

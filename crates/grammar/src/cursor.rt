@@ -1,8 +1,11 @@
-// Where a reader stands: a place of the source, how many drafts are before it, and how many bytes of text they will take.
-ghost use Rattle.std.specs.Prelude.{◌≡◌, ◌≤◌, length};
-ghost use Rattle.grammar.specs.Went.{moved_to, PassIs};
+// Where a reader stands: a place of the source, how many drafts are before it, and how many bytes of text they take.
+// The source is no part of it: it never changes, so that each reader's answer would only hand it back.
+ghost use Rattle.std.specs.Prelude.{◌≡◌, ◌≤◌, ◌<◌, ◌+◌, ◌^◌, length};
+ghost use Rattle.grammar.specs.Went.{moved_to, one_more, PassIs};
 
-use crate::token::{Took, mark};
+use crate::token::expect;
+use refusal::Refusal;
+use tokens::Kind;
 
 #[derive(Clone, Copy)]
 pub struct Cursor {
@@ -11,35 +14,32 @@ pub struct Cursor {
     pub text: usize,
 }
 
-// Where it then stands, or the number and the place of the refusal.
-#[derive(Clone, Copy)]
-pub enum Went {
-    Done(Cursor),
-    Refused(usize, usize),
-}
-
-// The same drafts, at another place.
-pub(crate) fn moved(c: Cursor, at: usize) -> Cursor
-    ensures { result ≡ moved_to c at }
-{
-    Cursor {
-        at,
-        count: c.count,
-        text: c.text,
+impl Cursor {
+    // The same drafts, at another place.
+    pub(crate) fn moved(self, at: usize) -> Cursor
+        ensures { result ≡ moved_to self at }
+    {
+        Cursor { at, ..self }
     }
-}
 
-// The mark has to stand here; nothing else changes.
-pub(crate) fn pass(src: &[u8], from: Cursor, byte: u8) -> Went
-    requires { from.at ≤ length src.now }
-    ensures { PassIs src.now from byte result }
-{
-    match mark(src, from.at, byte) {
-        Took::At { place: _, next } => Went::Done(Cursor {
-            at: next,
-            count: from.count,
-            text: from.text,
-        }),
-        Took::Missing { number, place } => Went::Refused(number, place),
+    // One more draft, of so many bytes of text.
+    pub(crate) fn drafted(self, size: usize) -> Cursor
+        requires { (self.count + 1 < 2 ^ 32) × (self.text + size < 2 ^ 32) }
+        ensures { result ≡ one_more self size }
+    {
+        Cursor {
+            at: self.at,
+            count: self.count + 1,
+            text: self.text + size,
+        }
+    }
+
+    // The mark has to stand here; nothing else changes.
+    pub(crate) fn pass(self, src: &[u8], byte: u8) -> Result<Cursor, Refusal>
+        requires { self.at ≤ length src.now }
+        ensures { PassIs src.now self byte result }
+    {
+        let spot = expect(src, self.at, Kind::Mark(byte))?;
+        Ok(self.moved(spot.next))
     }
 }

@@ -12,22 +12,24 @@ mod value;
 mod vectors;
 
 ghost use Rattle.std.specs.Prelude.{◌≡◌, ◌≤◌, length};
-ghost use Rattle.grammar.specs.Reads.{WholeIs, Result, reads};
+ghost use Rattle.grammar.specs.Reads.{WholeIs, outcome, reads};
 
-use crate::cursor::{Cursor, Went};
+use crate::cursor::Cursor;
+use crate::draft::Work;
 use crate::statements::read_statements;
-use crate::token::{Ending, end_at};
-pub use answer::Read;
+use crate::token::expect;
+pub use answer::Drafts;
+pub use draft::{RECORD, STEPS};
+use refusal::{Reason, Refusal};
+use tokens::Kind;
 
 const OPENINGS: usize = 32;
 
 const SOURCE: usize = 32768;
 
-const WORK: usize = 65536;
-
 // Statements up to the end of the source.
-fn read_whole(src: &[u8], work: &mut [u8]) -> Read
-    requires { (length src.now ≤ 32768) × (65536 ≤ length work.old) }
+fn read_whole(src: &[u8], work: &mut Work) -> Result<Drafts, Refusal>
+    requires { length src.now ≤ 32768 }
     ensures { WholeIs src.now work.old work.new result }
 {
     let start = Cursor {
@@ -35,40 +37,41 @@ fn read_whole(src: &[u8], work: &mut [u8]) -> Read
         count: 0,
         text: 0,
     };
-    match read_statements(src, start, OPENINGS, work) {
-        Went::Done(to) => match end_at(src, to.at) {
-            Ending::Ended => Read::Done {
-                steps: to.count,
-                text: to.text,
-            },
-            Ending::Refused { number, place } => Read::Refused { number, place },
-        },
-        Went::Refused(number, place) => Read::Refused { number, place },
-    }
+    let to = read_statements(src, start, OPENINGS, work)?;
+    expect(src, to.at, Kind::End)?;
+    Ok(Drafts {
+        steps: to.count,
+        text: to.text,
+    })
 }
 
 // A refusal leaves nothing of what was read before it.
-pub fn read(src: &[u8], work: &mut [u8]) -> Read
-    ensures { ◌≡◌ {A = Result} (record { answer = result; work = work.new }) (reads src.now work.old) }
+fn read_drafts(src: &[u8], work: &mut Work) -> Result<Drafts, Refusal>
+    ensures { outcome result work.new ≡ reads src.now work.old }
 {
-    if work.len() < WORK {
-        return Read::Refused {
-            number: 8,
-            place: 0,
-        };
-    }
     memory::clear(work);
     if SOURCE < src.len() {
-        return Read::Refused {
-            number: 1,
+        return Err(Refusal {
+            reason: Reason::DescriptionTooLong,
             place: 0,
-        };
+        });
     }
-    match read_whole(src, work) {
-        Read::Done { steps, text } => Read::Done { steps, text },
-        Read::Refused { number, place } => {
-            memory::clear(work);
-            Read::Refused { number, place }
-        }
+    let drafts = read_whole(src, work);
+    if drafts.is_err() {
+        memory::clear(work);
+    }
+    drafts
+}
+
+// Only the front of the slice is read into; one that is too short stays as it was.
+pub fn read(src: &[u8], work: &mut [u8]) -> Result<Drafts, Refusal>
+    ensures { outcome result work.new ≡ reads src.now work.old }
+{
+    match work.first_chunk_mut() {
+        Some(drafts) => read_drafts(src, drafts),
+        None => Err(Refusal {
+            reason: Reason::SliceTooShort,
+            place: 0,
+        }),
     }
 }

@@ -1,125 +1,65 @@
 // References: names joined by `:`.
 ghost use Rattle.std.specs.Prelude.{◌≡◌, ◌≤◌, length};
-ghost use Rattle.grammar.specs.Paths.{NamedIs, PathIs, RefIs};
+ghost use Rattle.grammar.specs.Paths.{PathIs, RefIs};
 
-use crate::token::{Ahead, Seen, follows, token_at};
+use crate::token::{expect, follows, token_at};
+use refusal::{Reason, Refusal};
+use tokens::Kind;
 
-pub const NAMES: usize = 32;
-
-// A name that has to stand here.
-#[derive(Clone, Copy)]
-pub enum Named {
-    At { place: usize, next: usize },
-    Missing { number: usize, place: usize },
-}
-
-fn name(src: &[u8], at: usize) -> Named
-    requires { at ≤ length src.now }
-    ensures { NamedIs src.now at result }
-{
-    match token_at(src, at) {
-        Seen::Name { place, next } => Named::At { place, next },
-        Seen::Reserved {
-            word: _,
-            place,
-            next: _,
-        } => Named::Missing { number: 3, place },
-        Seen::Written {
-            literal: _,
-            place,
-            next: _,
-        } => Named::Missing { number: 3, place },
-        Seen::Mark {
-            byte: _,
-            place,
-            next: _,
-        } => Named::Missing { number: 3, place },
-        Seen::End { place } => Named::Missing { number: 3, place },
-        Seen::Fault { number, place } => Named::Missing { number, place },
-    }
-}
+const NAMES: usize = 32;
 
 // A whole reference: where the source goes on, and how many bytes of text it will take.
 #[derive(Clone, Copy)]
-pub enum Path {
-    Whole { next: usize, size: usize },
-    Broken { number: usize, place: usize },
+pub struct Path {
+    pub next: usize,
+    pub size: usize,
 }
 
-pub(crate) fn read_path(src: &[u8], at: usize) -> Path
+pub(crate) fn read_path(src: &[u8], at: usize) -> Result<Path, Refusal>
     requires { at ≤ length src.now }
     ensures { PathIs src.now at result }
 {
-    let mut i = at;
-    let mut left = NAMES;
+    let mut next = at;
     let mut size: usize = 1;
-    loop {
-        match name(src, i) {
-            Named::At { place, next } => {
-                if left == 0 {
-                    return Path::Broken { number: 6, place };
-                }
-                left -= 1;
-                size += next - place + 1;
-                match follows(src, next, b':') {
-                    Ahead::Yes(_, more) => {
-                        i = more;
-                    }
-                    Ahead::No => {
-                        return Path::Whole { next, size };
-                    }
-                    Ahead::Fault(number, place) => {
-                        return Path::Broken { number, place };
-                    }
-                }
-            }
-            Named::Missing { number, place } => {
-                return Path::Broken { number, place };
-            }
-        }
+    for _ in 0..NAMES {
+        let spot = expect(src, next, Kind::Name)?;
+        size += spot.next - spot.place + 1;
+        let Some(colon) = follows(src, spot.next, b':')? else {
+            return Ok(Path {
+                next: spot.next,
+                size,
+            });
+        };
+        next = colon.next;
     }
+    let spot = expect(src, next, Kind::Name)?;
+    Err(Refusal {
+        reason: Reason::TokenTooLong,
+        place: spot.place,
+    })
+}
+
+// A reference: where it stands, where the source goes on, and how many bytes of text it will take.
+#[derive(Clone, Copy)]
+pub struct Reference {
+    pub place: usize,
+    pub next: usize,
+    pub size: usize,
 }
 
 // A reference that may stand here.
-#[derive(Clone, Copy)]
-pub enum Reference {
-    Here {
-        place: usize,
-        next: usize,
-        size: usize,
-    },
-    Absent,
-    Fault {
-        number: usize,
-        place: usize,
-    },
-}
-
-pub(crate) fn read_reference(src: &[u8], at: usize) -> Reference
+pub(crate) fn read_reference(src: &[u8], at: usize) -> Result<Option<Reference>, Refusal>
     requires { at ≤ length src.now }
     ensures { RefIs src.now at result }
 {
-    match token_at(src, at) {
-        Seen::Name { place, next: _ } => match read_path(src, at) {
-            Path::Whole { next, size } => Reference::Here { place, next, size },
-            Path::Broken { number, place } => Reference::Fault { number, place },
-        },
-        Seen::Reserved {
-            word: _,
-            place: _,
-            next: _,
-        } => Reference::Absent,
-        Seen::Written {
-            literal: _,
-            place: _,
-            next: _,
-        } => Reference::Absent,
-        Seen::Mark {
-            byte: _,
-            place: _,
-            next: _,
-        } => Reference::Absent,
-        Seen::End { place: _ } => Reference::Absent,
-        Seen::Fault { number, place } => Reference::Fault { number, place },
+    let token = token_at(src, at)?;
+    if token.kind != Kind::Name {
+        return Ok(None);
     }
+    let path = read_path(src, at)?;
+    Ok(Some(Reference {
+        place: token.at,
+        next: path.next,
+        size: path.size,
+    }))
 }

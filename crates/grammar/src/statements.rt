@@ -1,212 +1,140 @@
 // Statements, prototype lists and blocks: readers that call one another. Each call is on a shorter rest of the source.
 ghost use Rattle.std.specs.Prelude.{◌≡◌, ◌≤◌, length};
-ghost use Rattle.grammar.specs.Readers.{Fit, FitValue, FitLink, StatementsRead, ValueRead, LinkRead, PrototypesRead, BlockRead};
+ghost use Rattle.grammar.specs.Readers.{Fit, FitValue, FitLink};
+ghost use Rattle.grammar.specs.Readers.{StatementsRead, ValueRead, LinkRead, PrototypesRead, BlockRead};
 
-use crate::cursor::{Cursor, Went, moved, pass};
-use crate::draft::{Entry, put, put_bare, put_path};
+use crate::cursor::Cursor;
+use crate::draft::{Entry, Work, put, put_bare, put_path};
 use crate::path::{Reference, read_reference};
-use crate::token::{Ahead, Took, follows, mark};
-use crate::value::{Begun, Value, find_value};
+use crate::token::{expect, follows};
+use crate::value::{Value, find_value};
 use crate::vectors::{Own, read_basic};
-
-// A statement's target: where its path stands, and the bytes that it will take.
-#[derive(Clone, Copy)]
-pub struct Target {
-    pub place: usize,
-    pub size: usize,
-}
+use kinds::{Kind, Step};
+use refusal::{Reason, Refusal};
+use tokens::Kind as TokenKind;
 
 #[cycle(read_block_read_prototypes_read_statements_read_value)]
-pub(crate) fn read_statements(src: &[u8], from: Cursor, left: usize, work: &mut [u8]) -> Went
-    requires { Fit src.now from work.old }
+pub(crate) fn read_statements(
+    src: &[u8],
+    from: Cursor,
+    left: usize,
+    work: &mut Work,
+) -> Result<Cursor, Refusal>
+    requires { Fit src.now from }
     ensures { StatementsRead src.now from left work.old work.new result }
 {
-    let mut c = from;
-    loop {
-        match read_reference(src, c.at) {
-            Reference::Here { place, next, size } => {
-                match read_value(
-                    src,
-                    Target { place, size },
-                    Cursor {
-                        at: next,
-                        count: c.count,
-                        text: c.text,
-                    },
-                    left,
-                    work,
-                ) {
-                    Went::Done(to) => {
-                        c = to;
-                    }
-                    Went::Refused(number, place) => return Went::Refused(number, place),
-                }
-            }
-            Reference::Absent => return Went::Done(c),
-            Reference::Fault { number, place } => return Went::Refused(number, place),
-        }
+    let mut here = from;
+    while let Some(target) = read_reference(src, here.at)? {
+        here = read_value(src, target, here.moved(target.next), left, work)?;
     }
+    Ok(here)
 }
 
 // A link, up to its `;`.
 fn read_link(
     src: &[u8],
-    target: Target,
+    target: Reference,
+    link: Reference,
     from: Cursor,
-    place: usize,
-    size: usize,
-    work: &mut [u8],
-) -> Went
-    requires { FitLink src.now target from size work.old }
-    ensures { LinkRead src.now target from place size work.old work.new result }
+    work: &mut Work,
+) -> Result<Cursor, Refusal>
+    requires { FitLink src.now target link from }
+    ensures { LinkRead src.now target link from work.old work.new result }
 {
     put(
         work,
         from.count,
         Entry {
-            step: 8,
-            kind: 0,
+            step: Step::Link,
+            kind: Kind::Component,
             path: target.place,
             span: 0,
-            value: place as u64,
-            place,
+            value: link.place as u64,
+            place: link.place,
         },
     );
-    pass(
-        src,
-        Cursor {
-            at: from.at,
-            count: from.count + 1,
-            text: from.text + target.size + size,
-        },
-        b';',
-    )
+    from.drafted(target.size + link.size).pass(src, b';')
 }
 
 #[cycle(read_block_read_prototypes_read_statements_read_value)]
-fn read_value(src: &[u8], target: Target, from: Cursor, left: usize, work: &mut [u8]) -> Went
-    requires { FitValue src.now target from work.old }
+fn read_value(
+    src: &[u8],
+    target: Reference,
+    from: Cursor,
+    left: usize,
+    work: &mut Work,
+) -> Result<Cursor, Refusal>
+    requires { FitValue src.now target from }
     ensures { ValueRead src.now target from left work.old work.new result }
 {
-    match find_value(src, from.at) {
-        Begun::Value { value, next } => {
-            let c = moved(from, next);
-            match value {
-                Value::Basic(basic) => {
-                    let own = Own {
-                        step: 6,
-                        path: target.place,
-                        place: target.place,
-                        size: target.size,
-                    };
-                    match read_basic(src, basic, own, c, left, work) {
-                        Went::Done(to) => pass(src, to, b';'),
-                        Went::Refused(number, place) => Went::Refused(number, place),
-                    }
-                }
-                Value::Link { place, size } => read_link(src, target, c, place, size, work),
-                Value::Extends => {
-                    put_path(work, from.count, 1, target.place);
-                    let first = Cursor {
-                        at: next,
-                        count: from.count + 1,
-                        text: from.text + target.size,
-                    };
-                    match read_prototypes(src, first, left, work) {
-                        Went::Done(to) => {
-                            put_bare(work, to.count, 5);
-                            Went::Done(Cursor {
-                                at: to.at,
-                                count: to.count + 1,
-                                text: to.text,
-                            })
-                        }
-                        Went::Refused(number, place) => Went::Refused(number, place),
-                    }
-                }
-            }
+    let found = find_value(src, from.at)?;
+    let here = from.moved(found.next);
+    match found.value {
+        Value::Basic(basic) => {
+            let own = Own {
+                step: Step::Set,
+                place: target.place,
+                size: target.size,
+            };
+            let to = read_basic(src, basic, own, here, left, work)?;
+            to.pass(src, b';')
         }
-        Begun::Fault { number, place } => Went::Refused(number, place),
+        Value::Link(link) => read_link(src, target, link, here, work),
+        Value::Extends => {
+            put_path(work, here.count, Step::Make, target.place);
+            let to = read_prototypes(src, here.drafted(target.size), left, work)?;
+            put_bare(work, to.count, Step::Done);
+            Ok(to.drafted(0))
+        }
     }
 }
 
 #[cycle(read_block_read_prototypes_read_statements_read_value)]
-fn read_prototypes(src: &[u8], from: Cursor, left: usize, work: &mut [u8]) -> Went
-    requires { Fit src.now from work.old }
+fn read_prototypes(
+    src: &[u8],
+    from: Cursor,
+    left: usize,
+    work: &mut Work,
+) -> Result<Cursor, Refusal>
+    requires { Fit src.now from }
     ensures { PrototypesRead src.now from left work.old work.new result }
 {
-    let mut c = from;
+    let mut here = from;
     loop {
-        match read_reference(src, c.at) {
-            Reference::Here { place, next, size } => {
-                put_path(work, c.count, 2, place);
-                let to = Cursor {
-                    at: next,
-                    count: c.count + 1,
-                    text: c.text + size,
-                };
-                match follows(src, next, b',') {
-                    Ahead::Yes(_, more) => {
-                        c = moved(to, more);
-                    }
-                    Ahead::No => return pass(src, to, b';'),
-                    Ahead::Fault(number, place) => return Went::Refused(number, place),
-                }
-            }
-            Reference::Absent => match read_block(src, c, left, work) {
-                Went::Done(to) => match follows(src, to.at, b',') {
-                    Ahead::Yes(_, more) => {
-                        c = moved(to, more);
-                    }
-                    Ahead::No => return Went::Done(to),
-                    Ahead::Fault(number, place) => return Went::Refused(number, place),
-                },
-                Went::Refused(number, place) => return Went::Refused(number, place),
-            },
-            Reference::Fault { number, place } => return Went::Refused(number, place),
+        if let Some(prototype) = read_reference(src, here.at)? {
+            put_path(work, here.count, Step::Take, prototype.place);
+            let to = here.moved(prototype.next).drafted(prototype.size);
+            let Some(comma) = follows(src, to.at, b',')? else {
+                return to.pass(src, b';');
+            };
+            here = to.moved(comma.next);
+        } else {
+            let to = read_block(src, here, left, work)?;
+            let Some(comma) = follows(src, to.at, b',')? else {
+                return Ok(to);
+            };
+            here = to.moved(comma.next);
         }
     }
 }
 
 // A block in its braces.
 #[cycle(read_block_read_prototypes_read_statements_read_value)]
-fn read_block(src: &[u8], from: Cursor, left: usize, work: &mut [u8]) -> Went
-    requires { Fit src.now from work.old }
+fn read_block(src: &[u8], from: Cursor, left: usize, work: &mut Work) -> Result<Cursor, Refusal>
+    requires { Fit src.now from }
     ensures { BlockRead src.now from left work.old work.new result }
 {
-    match mark(src, from.at, b'{') {
-        Took::At { place, next } => {
-            if left == 0 {
-                return Went::Refused(5, place);
-            }
-            put_bare(work, from.count, 3);
-            match read_statements(
-                src,
-                Cursor {
-                    at: next,
-                    count: from.count + 1,
-                    text: from.text,
-                },
-                left - 1,
-                work,
-            ) {
-                Went::Done(to) => match mark(src, to.at, b'}') {
-                    Took::At {
-                        place: _,
-                        next: past,
-                    } => {
-                        put_bare(work, to.count, 4);
-                        Went::Done(Cursor {
-                            at: past,
-                            count: to.count + 1,
-                            text: to.text,
-                        })
-                    }
-                    Took::Missing { number, place } => Went::Refused(number, place),
-                },
-                Went::Refused(number, place) => Went::Refused(number, place),
-            }
-        }
-        Took::Missing { number, place } => Went::Refused(number, place),
+    let opened = expect(src, from.at, TokenKind::Mark(b'{'))?;
+    if left == 0 {
+        return Err(Refusal {
+            reason: Reason::TooManyOpenings,
+            place: opened.place,
+        });
     }
+    put_bare(work, from.count, Step::Enter);
+    let inside = from.moved(opened.next).drafted(0);
+    let to = read_statements(src, inside, left - 1, work)?;
+    let closed = expect(src, to.at, TokenKind::Mark(b'}'))?;
+    put_bare(work, to.count, Step::Leave);
+    Ok(to.moved(closed.next).drafted(0))
 }

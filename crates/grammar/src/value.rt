@@ -1,83 +1,48 @@
 // A statement's value, as far as it can be read without a stack.
 ghost use Rattle.std.specs.Prelude.{◌≡◌, ◌≤◌, length};
-ghost use Rattle.grammar.specs.Values.{Neither, NamedAt, BegunIs};
+ghost use Rattle.grammar.specs.Values.{BegunIs};
 
-use crate::basic::{Basic, Found, find_basic};
-use crate::path::{Path, read_path};
-use crate::token::{Seen, Word, token_at};
+use crate::basic::{Basic, find_basic};
+use crate::path::{Reference, read_reference};
+use crate::token::token_at;
+use refusal::Refusal;
+use tokens::{Kind, Word};
 
-// The three sorts: a basic; a link to the reference at a place, its text of so many bytes; `extends`.
+// The three sorts: a basic, a link to a reference, `extends`.
 #[derive(Clone, Copy)]
 pub enum Value {
     Basic(Basic),
-    Link { place: usize, size: usize },
+    Link(Reference),
     Extends,
 }
 
+// What was found, and where the source goes on.
 #[derive(Clone, Copy)]
-pub enum Begun {
-    Value { value: Value, next: usize },
-    Fault { number: usize, place: usize },
+pub struct FoundValue {
+    pub value: Value,
+    pub next: usize,
 }
 
-fn find_plain(src: &[u8], at: usize) -> Begun
-    requires { Neither src.now at }
-    ensures { BegunIs src.now at result }
-{
-    match find_basic(src, at) {
-        Found::Basic(basic, next) => Begun::Value {
-            value: Value::Basic(basic),
-            next,
-        },
-        Found::Fault(number, place) => Begun::Fault { number, place },
-    }
-}
-
-fn find_link(src: &[u8], at: usize, place: usize) -> Begun
-    requires { NamedAt src.now at place }
-    ensures { BegunIs src.now at result }
-{
-    match read_path(src, at) {
-        Path::Whole { next, size } => Begun::Value {
-            value: Value::Link { place, size },
-            next,
-        },
-        Path::Broken { number, place } => Begun::Fault { number, place },
-    }
-}
-
-pub(crate) fn find_value(src: &[u8], at: usize) -> Begun
+pub(crate) fn find_value(src: &[u8], at: usize) -> Result<FoundValue, Refusal>
     requires { at ≤ length src.now }
     ensures { BegunIs src.now at result }
 {
-    match token_at(src, at) {
-        Seen::Reserved {
-            word,
-            place: _,
-            next,
-        } => match word {
-            Word::Extends => Begun::Value {
-                value: Value::Extends,
-                next,
-            },
-            Word::Data => find_plain(src, at),
-            Word::Null => find_plain(src, at),
-            Word::True => find_plain(src, at),
-            Word::False => find_plain(src, at),
-            Word::Other => find_plain(src, at),
-        },
-        Seen::Name { place, next: _ } => find_link(src, at, place),
-        Seen::Written {
-            literal: _,
-            place: _,
-            next: _,
-        } => find_plain(src, at),
-        Seen::Mark {
-            byte: _,
-            place: _,
-            next: _,
-        } => find_plain(src, at),
-        Seen::End { place: _ } => find_plain(src, at),
-        Seen::Fault { number, place } => Begun::Fault { number, place },
+    let token = token_at(src, at)?;
+    if token.kind == Kind::Word(Word::Extends) {
+        Ok(FoundValue {
+            value: Value::Extends,
+            next: token.end,
+        })
+    } else if let Some(reference) = read_reference(src, at)? {
+        Ok(FoundValue {
+            value: Value::Link(reference),
+            next: reference.next,
+        })
+    } else {
+        let found = find_basic(src, at)?;
+        Ok(FoundValue {
+            value: Value::Basic(found.basic),
+            next: found.next,
+        })
     }
 }

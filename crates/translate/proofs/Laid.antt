@@ -9,11 +9,11 @@ use Rattle.theorems.proofs.Decoded.Parts.{length_little}
 use Rattle.theorems.proofs.Decoded.Header.{Lasts, records_length}
 use Rattle.memory.specs.Memory.{stored}
 use Rattle.memory.proofs.Laws.{length_stored, then_stored, stored_none, stored_apart, stored_front}
-use Rattle.translate.specs.Lay.{lay_row, lay, head}
-
-pub row_length : (t : ℕ) (x : Row) → length x.last ≡ 4 → length (row_bytes t x) ≡ 20
-unfolding row_bytes
-row_length t x e = simp (length-append, length_little) (omega arith)
+use Rattle.forms.specs.declared.form.Form.TheVariants.{Steps}
+use Rattle.forms.specs.Header.{header_of}
+use Rattle.forms.proofs.Puts.{list_header}
+use Rattle.grammar.proofs.Rules.Fronts.{row_length}
+use Rattle.translate.specs.Lay.{lay_row, lay}
 
 -- all the rows from the i-th on are two stores: of their records, and of their text
 lay_all : (b : ℕ) (o : List ℕ) (i t : ℕ) (xs : List Row) → Lasts 4 xs → 24 + 20 * (i + length xs) ≤ b → b + t + length (texts xs) ≤ length o
@@ -37,16 +37,19 @@ lay_all b o i t (x ∷ xs) h l m =
     ∙ ap (λ s. stored (stored s B T) (b + (t + length T)) ts) (then_stored o A A' R rs (omega arith) (omega arith))
     ∙ then_stored (stored o A (R ++ rs)) B (b + (t + length T)) T ts q (rw (length_stored o A (R ++ rs)) (omega arith))
 
+-- of a step list
+abbrev pub head : ℕ → ℕ → List ℕ
+head = header_of Steps
+
 head_length : (n t : ℕ) → length (head n t) ≡ 24
-unfolding head
-head_length n t = simp (length-append, length_little) (omega arith)
+head_length n t = rw list_header (simp (length-append, length_little) (omega arith))
 
 -- header, records and text, one behind the other
 whole : (xs : List Row) → Lasts 4 xs → laid_out 1 xs ≡ (head (length xs) (length (texts xs)) ++ records 0 xs) ++ texts xs
-unfolding laid_out head
+unfolding laid_out
 whole xs h =
     let l : length (records 0 xs) ≡ 20 * length xs = records_length 4 xs 0 h in
-    rw l (simp append_assoc)
+    rw (list_header, l) (simp append_assoc)
 
 pub laid_length : (xs : List Row) → Lasts 4 xs → length (laid_out 1 xs) ≡ 24 + 20 * length xs + length (texts xs)
 laid_length xs h =

@@ -1,6 +1,6 @@
 -- How a step list is written: header, then record by record, each record's text behind the text of those before it. Assumes nothing.
-use Rattle.std.specs.Prelude.{ℕ, suc, ◌+◌, ◌*◌, List, [], ◌∷◌, ◌++◌, length}
-use Rattle.paper.specs.Layout.{Row, little, row_bytes, row_text}
+use Rattle.std.specs.Prelude.{ℕ, suc, ◌+◌, ◌*◌, List, [], ◌∷◌, length}
+use Rattle.paper.specs.Layout.{Row, row_bytes, row_text}
 use Rattle.memory.specs.Memory.{stored}
 
 -- the slice with record i, whose text begins at t, written; b is where the text begins in the slice
@@ -11,7 +11,3 @@ lay_row b o i t x = stored (stored o (24 + 20 * i) (row_bytes t x)) (b + t) (row
 unfoldable pub lay : ℕ → List ℕ → ℕ → ℕ → List Row → List ℕ
 lay b o i t [] = o
 lay b o i t (x ∷ xs) = lay b (lay_row b o i t x) (suc i) (t + length (row_text x)) xs
-
--- the header of a step list of n records with t bytes of text
-unfoldable pub head : ℕ → ℕ → List ℕ
-head n t = little 4 1 ++ (little 4 (24 + 20 * n + t) ++ (little 4 n ++ (little 4 24 ++ (little 4 t ++ little 4 (24 + 20 * n)))))

@@ -1,4 +1,4 @@
 pub mod Lay
 pub mod Settled
 pub mod Puts
-pub mod Answers
+pub mod Outcomes

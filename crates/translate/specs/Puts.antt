@@ -1,19 +1,15 @@
 -- The contracts of those who write a step list. Assumes nothing.
-use Rattle.std.specs.Prelude.{ℕ, ◌+◌, ◌*◌, ◌-◌, ◌≤◌, ◌<◌, ◌≡◌, Bool, true, false, eqb, List, ◌++◌, length, take, drop}
+use Rattle.std.specs.Prelude.{ℕ, ◌+◌, ◌*◌, ◌-◌, ◌≤◌, ◌<◌, ◌≡◌, true, false, List, ◌++◌, length, take, drop, Option, Some, None}
 use Rattle.paper.specs.Answer.{ok}
 use Rattle.paper.specs.Tokens.{Token, name, Here, is_name, is_mark}
 use Rattle.paper.specs.Scanner.{next}
 use Rattle.paper.specs.Layout.{name_text, path_text, long_text, text_of, row_text, texts, laid_out}
 use Rattle.memory.specs.Memory.{stored}
-use Rattle.tokens.specs.declared.Kind.{Kind}
-use Rattle.tokens.specs.declared.Kind.TheVariants.{Name, Word, Integer, Decimal, Text, Mark, End}
 use Rattle.grammar.specs.Places.{here}
 use Rattle.translate.specs.Lay.{lay_row}
 use Rattle.translate.specs.Settled.{path_at, said_at, PathThere, DecimalThere, StringThere, LabelThere, ValueThere, RowThere, label_at, value_at, settled, fields_at, rows_at}
 use Rattle.translate.specs.declared.record.Fields.{Fields}
 use Rattle.translate.specs.declared.token.Span.{Span}
-use Rattle.translate.specs.declared.token.More.{More}
-use Rattle.translate.specs.declared.token.More.TheVariants.{At, Last}
 
 -- ---- tokens
 
@@ -35,27 +31,18 @@ pub record NameSpan (s : List ℕ) (at : ℕ) (r : Span) : Type 0 where
   pub short : length spelt ≤ 255
   pub within : r.end ≤ length s
 
-abbrev pub is_colon : Kind → Bool
-is_colon Name = false
-is_colon (Word i) = false
-is_colon (Integer v) = false
-is_colon Decimal = false
-is_colon (Text n) = false
-is_colon (Mark b) = eqb b 58
-is_colon End = false
-
 -- the colon y ends at e
 pub record Colon (s : List ℕ) (y : Token × Here × Here) (e : ℕ) : Type 0 where
   pub is : is_mark ":" y.0 ≡ true
   pub on : y.2 ≡ here s e
   pub within : e ≤ length s
 
-abbrev pub ColonIs : List ℕ → Token × Here × Here → More → Type 0
-ColonIs s y (At e) = Colon s y e
-ColonIs s y Last = is_mark ":" y.0 ≡ false
+abbrev pub ColonIs : List ℕ → Token × Here × Here → Option ℕ → Type 0
+ColonIs s y (Some e) = Colon s y e
+ColonIs s y None = is_mark ":" y.0 ≡ false
 
 -- whether the next token, if there is one, is a colon
-pub record MoreIs (s : List ℕ) (at : ℕ) (r : More) : Type 0 where
+pub record MoreIs (s : List ℕ) (at : ℕ) (r : Option ℕ) : Type 0 where
   pub is : (y : Token × Here × Here) → next (here s at) ≡ ok y → ColonIs s y r
 
 -- ---- texts

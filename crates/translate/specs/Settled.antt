@@ -52,10 +52,6 @@ unfoldable pub field_bytes : Fields → List ℕ
 field_bytes f =
     little 2 f.step ++ (little 2 f.kind ++ (little 2 f.path ++ (little 2 f.span ++ (little 8 f.value ++ little 4 f.place))))
 
--- the same but for the places of texts
-abbrev pub with_texts : Fields → ℕ → ℕ → Fields
-with_texts f p v = record { step = f.step; kind = f.kind; path = p; span = f.span; value = v; place = f.place }
-
 -- ---- rows
 
 unfoldable pub label_at : List ℕ → ℕ → ℕ → Field

@@ -4,7 +4,7 @@ ghost use Rattle.paper.specs.Layout.{path_text, name_text};
 ghost use Rattle.translate.specs.Settled.{path_at};
 ghost use Rattle.translate.specs.Puts.{PathFits, NameFits, Put};
 
-use crate::token::{More, colon_at, name_at};
+use crate::token::{colon_at, name_at};
 
 fn put_name(name: &[u8], out: &mut [u8], to: usize) -> usize
     requires { NameFits name.now out.old to }
@@ -21,23 +21,18 @@ pub(crate) fn put_path(src: &[u8], at: usize, out: &mut [u8], to: usize) -> usiz
     requires { PathFits src.now at out.old to }
     ensures { Put out.old out.new to (path_text (path_at src.now at)) result }
 {
-    let mut i = at;
-    let mut count: usize = 0;
+    let mut from = at;
+    let mut count = 0;
     let mut end = to + 1;
+    // How many names there are shows at the last: there is no range to go over.
     loop {
-        let name = name_at(src, i);
-        let from = name.at;
-        let past = name.end;
-        end = put_name(&src[from..past], out, end);
+        let name = name_at(src, from);
+        end = put_name(&src[name.at..name.end], out, end);
         count += 1;
-        match colon_at(src, past) {
-            More::At(next) => {
-                i = next;
-            }
-            More::Last => {
-                out[to] = count as u8;
-                return end;
-            }
-        }
+        let Some(next) = colon_at(src, name.end) else {
+            out[to] = count;
+            return end;
+        };
+        from = next;
     }
 }

@@ -1,9 +1,11 @@
-// Records of 20 bytes: read from the drafts, written to the step list.
+// Records of 20 bytes: read from the drafts, written to the step list behind its header.
 ghost use Rattle.std.specs.Prelude.{◌≡◌, ◌+◌, ◌≤◌, length};
 ghost use Rattle.memory.specs.Memory.{stored};
 ghost use Rattle.translate.specs.Settled.{fields_at, field_bytes};
 
-// A record's six numbers.
+pub(crate) const HEADER: usize = 24;
+
+// A record's six numbers. step and kind are no enums: any bytes may stand in a work slice, and read refuses none.
 #[derive(Clone, Copy)]
 pub struct Fields {
     pub step: u16,
@@ -14,34 +16,32 @@ pub struct Fields {
     pub place: u32,
 }
 
-pub(crate) fn get_fields(work: &[u8], at: usize) -> Fields
-    requires { at ≤ 65536 }
-    ensures { result ≡ fields_at work.now at }
-{
-    let step = memory::get16(work, at);
-    let kind = memory::get16(work, at + 2);
-    let path = memory::get16(work, at + 4);
-    let span = memory::get16(work, at + 6);
-    let value = memory::get64(work, at + 8);
-    let place = memory::get32(work, at + 16);
-    Fields {
-        step,
-        kind,
-        path,
-        span,
-        value,
-        place,
+impl Fields {
+    pub(crate) fn read(work: &[u8], at: usize) -> Fields
+        requires { at ≤ 65536 }
+        ensures { result ≡ fields_at work.now at }
+    {
+        Fields {
+            step: memory::get16(work, at),
+            kind: memory::get16(work, at + 2),
+            path: memory::get16(work, at + 4),
+            span: memory::get16(work, at + 6),
+            value: memory::get64(work, at + 8),
+            place: memory::get32(work, at + 16),
+        }
     }
-}
 
-pub(crate) fn put_fields(out: &mut [u8], at: usize, f: Fields)
-    requires { at + 20 ≤ length out.old }
-    ensures { out.new ≡ stored out.old at (field_bytes f) }
-{
-    memory::put16(out, at, f.step);
-    memory::put16(out, at + 2, f.kind);
-    memory::put16(out, at + 4, f.path);
-    memory::put16(out, at + 6, f.span);
-    memory::put64(out, at + 8, f.value);
-    memory::put32(out, at + 16, f.place);
+    // Not one writer with grammar's `put`, which stores six numbers alike: it would be public and ask nothing, so it
+    // would test for room that the caller gives here and the type there: no plainer.
+    pub(crate) fn write(self, out: &mut [u8], at: usize)
+        requires { at + 20 ≤ length out.old }
+        ensures { out.new ≡ stored out.old at (field_bytes self) }
+    {
+        memory::put16(out, at, self.step);
+        memory::put16(out, at + 2, self.kind);
+        memory::put16(out, at + 4, self.path);
+        memory::put16(out, at + 6, self.span);
+        memory::put64(out, at + 8, self.value);
+        memory::put32(out, at + 16, self.place);
+    }
 }

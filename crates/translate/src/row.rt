@@ -2,117 +2,90 @@
 ghost use Rattle.std.specs.Prelude.{◌≡◌, ◌||◌, ◌*◌, ◌≤◌, length};
 ghost use Rattle.paper.specs.Layout.{text_of};
 ghost use Rattle.grammar.specs.Ties.{has_path, is_path};
-ghost use Rattle.translate.specs.Settled.{label_at, value_at, fields_at, figure_of, is_long, with_texts};
+ghost use Rattle.translate.specs.Settled.{label_at, value_at, fields_at, figure_of, is_long};
 ghost use Rattle.translate.specs.Puts.{Put, LabelFits, ValueFits, RowFits, Laid};
 
 use crate::path::put_path;
-use crate::record::{Fields, get_fields, put_fields};
+use crate::record::{Fields, HEADER};
 use crate::token::{put_decimal, put_string};
-
-const MAKE: u16 = 1;
-
-const TAKE: u16 = 2;
-
-const SET: u16 = 6;
-
-const LINK: u16 = 8;
-
-const DECIMAL: u16 = 4;
-
-const TEXT: u16 = 5;
-
-const DATA: u16 = 6;
+use grammar::RECORD;
+use kinds::{Kind, Step};
 
 // The steps that have a path.
+#[tactic(auto, unfolding(grammar::specs::Ties::has_path))]
 fn has_path(step: u16) -> bool
     ensures { result ≡ has_path step }
 {
-    if step == MAKE {
-        return true;
-    }
-    if step == TAKE {
-        return true;
-    }
-    if step == SET {
-        return true;
-    }
-    step == LINK
+    matches!(
+        Step::try_from(step),
+        Ok(Step::Make | Step::Take | Step::Set | Step::Link)
+    )
 }
 
 // A link's value is a path, and so is a data reference.
 fn is_path(step: u16, kind: u16) -> bool
     ensures { result ≡ is_path step kind }
 {
-    if step == LINK {
-        return true;
-    }
-    kind == DATA
+    step == Step::Link.number() || kind == Kind::Reference.number()
 }
 
-fn put_label(src: &[u8], step: u16, place: u16, out: &mut [u8], to: usize) -> usize
-    requires { LabelFits src.now step place out.old to }
-    ensures { Put out.old out.new to (text_of (label_at src.now step place)) result }
+// A decimal is a text, and so is a string.
+fn is_long(kind: u16) -> bool
+    ensures { result ≡ is_long kind }
 {
-    if has_path(step) {
-        return put_path(src, place as usize, out, to);
-    }
-    to
+    kind == Kind::Decimal.number() || kind == Kind::Text.number()
 }
 
-fn put_value(src: &[u8], step: u16, kind: u16, value: u64, out: &mut [u8], to: usize) -> usize
-    requires { ValueFits src.now step kind value out.old to }
-    ensures { Put out.old out.new to (text_of (value_at src.now step kind value)) result }
+// The values that have a text.
+fn has_text(step: u16, kind: u16) -> bool
+    ensures { result ≡ (is_path step kind || is_long kind) }
 {
-    if is_path(step, kind) {
-        return put_path(src, value as usize, out, to);
+    is_path(step, kind) || is_long(kind)
+}
+
+fn put_label(src: &[u8], draft: Fields, out: &mut [u8], to: usize) -> usize
+    requires { LabelFits src.now draft.step draft.path out.old to }
+    ensures { Put out.old out.new to (text_of (label_at src.now draft.step draft.path)) result }
+{
+    if has_path(draft.step) {
+        put_path(src, usize::from(draft.path), out, to)
+    } else {
+        to
     }
-    if kind == DECIMAL {
-        return put_decimal(src, value as usize, out, to);
+}
+
+fn put_value(src: &[u8], draft: Fields, out: &mut [u8], to: usize) -> usize
+    requires { ValueFits src.now draft.step draft.kind draft.value out.old to }
+    ensures { Put out.old out.new to (text_of (value_at src.now draft.step draft.kind draft.value)) result }
+{
+    let at = draft.value as usize;
+    if is_path(draft.step, draft.kind) {
+        put_path(src, at, out, to)
+    } else if draft.kind == Kind::Decimal.number() {
+        put_decimal(src, at, out, to)
+    } else if draft.kind == Kind::Text.number() {
+        put_string(src, at, out, to)
+    } else {
+        to
     }
-    if kind == TEXT {
-        return put_string(src, value as usize, out, to);
-    }
-    to
 }
 
 // What stands in the record for a path whose text begins at t.
-fn label_figure(step: u16, t: usize) -> u16
+fn label_figure(draft: Fields, t: usize) -> u16
     requires { t ≤ 32768 }
-    ensures { result ≡ figure_of (has_path step) 0 t }
+    ensures { result ≡ figure_of (has_path draft.step) 0 t }
 {
-    if has_path(step) {
-        return t as u16;
-    }
-    0
+    if has_path(draft.step) { t as u16 } else { 0 }
 }
 
 // And for a value whose text begins at t, if it has one.
-fn value_figure(step: u16, kind: u16, value: u64, t: usize) -> u64
-    ensures { result ≡ figure_of (is_path step kind || is_long kind) value t }
+fn value_figure(draft: Fields, t: usize) -> u64
+    ensures { result ≡ figure_of (is_path draft.step draft.kind || is_long draft.kind) draft.value t }
 {
-    if is_path(step, kind) {
-        return t as u64;
-    }
-    if kind == DECIMAL {
-        return t as u64;
-    }
-    if kind == TEXT {
-        return t as u64;
-    }
-    value
-}
-
-// The record of a draft: places of text for places of the source, and all else as it is.
-fn with_texts(f: Fields, path: u16, value: u64) -> Fields
-    ensures { result ≡ with_texts f path value }
-{
-    Fields {
-        step: f.step,
-        kind: f.kind,
-        path,
-        span: f.span,
-        value,
-        place: f.place,
+    if has_text(draft.step, draft.kind) {
+        t as u64
+    } else {
+        draft.value
     }
 }
 
@@ -128,11 +101,14 @@ pub(crate) fn lay_row(
     requires { RowFits src.now (fields_at work.now (20 * i)) base out.old i t }
     ensures { Laid src.now (fields_at work.now (20 * i)) base out.old out.new i t result }
 {
-    let f = get_fields(work, 20 * i);
-    let mid = put_label(src, f.step, f.path, out, base + t);
-    let end = put_value(src, f.step, f.kind, f.value, out, mid);
-    let path = label_figure(f.step, t);
-    let value = value_figure(f.step, f.kind, f.value, mid - base);
-    put_fields(out, 24 + 20 * i, with_texts(f, path, value));
+    let draft = Fields::read(work, RECORD * i);
+    let mid = put_label(src, draft, out, base + t);
+    let end = put_value(src, draft, out, mid);
+    let record = Fields {
+        path: label_figure(draft, t),
+        value: value_figure(draft, mid - base),
+        ..draft
+    };
+    record.write(out, HEADER + RECORD * i);
     end - base
 }

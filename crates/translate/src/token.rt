@@ -2,9 +2,9 @@
 ghost use Rattle.std.specs.Prelude.{◌≡◌, ◌≤◌, length};
 ghost use Rattle.paper.specs.Layout.{long_text};
 ghost use Rattle.translate.specs.Settled.{said_at, DecimalThere};
-ghost use Rattle.translate.specs.Puts.{NameNext, NameSpan, is_colon, MoreIs, Put, TextFits, DecimalFits, StringFits};
+ghost use Rattle.translate.specs.Puts.{NameNext, NameSpan, MoreIs, Put, TextFits, DecimalFits, StringFits};
 
-use tokens::{Kind, Token};
+use tokens::{Kind, next_token};
 
 // From where to where a token stands.
 #[derive(Clone, Copy)]
@@ -13,57 +13,28 @@ pub struct Span {
     pub end: usize,
 }
 
-// Whether a colon follows, and where the source goes on after it.
-#[derive(Clone, Copy)]
-pub enum More {
-    At(usize),
-    Last,
-}
-
-// A refusal cannot be: the name was read before.
+// The name was read before, so none is refused.
 pub(crate) fn name_at(src: &[u8], at: usize) -> Span
     requires { NameNext src.now at }
     ensures { NameSpan src.now at result }
 {
-    match tokens::next_token(&src[at..]) {
-        Token::Found {
-            kind: _,
-            at: from,
-            end,
-        } => Span {
-            at: at + from,
-            end: at + end,
-        },
-        Token::Refused { number: _, at: _ } => Span { at, end: at },
+    let token = next_token(&src[at..]).unwrap();
+    Span {
+        at: at + token.at,
+        end: at + token.end,
     }
 }
 
-fn colon(kind: Kind) -> bool
-    ensures { result ≡ is_colon kind }
-{
-    match kind {
-        Kind::Name => false,
-        Kind::Word(_) => false,
-        Kind::Integer(_) => false,
-        Kind::Decimal => false,
-        Kind::Text(_) => false,
-        Kind::Mark(b) => b == b':',
-        Kind::End => false,
-    }
-}
-
-pub(crate) fn colon_at(src: &[u8], at: usize) -> More
+// Where the source goes on after a colon, if one follows. Not `then_some`: it would add before the test.
+pub(crate) fn colon_at(src: &[u8], at: usize) -> Option<usize>
     requires { at ≤ length src.now }
     ensures { MoreIs src.now at result }
 {
-    match tokens::next_token(&src[at..]) {
-        Token::Found { kind, at: _, end } => {
-            if colon(kind) {
-                return More::At(at + end);
-            }
-            More::Last
-        }
-        Token::Refused { number: _, at: _ } => More::Last,
+    let token = next_token(&src[at..]).ok()?;
+    if token.kind == Kind::Mark(b':') {
+        Some(at + token.end)
+    } else {
+        None
     }
 }
 
@@ -82,14 +53,8 @@ fn decimal_at(src: &[u8], at: usize) -> &[u8]
     requires { DecimalThere src.now at }
     ensures { result.now ≡ said_at src.now at }
 {
-    match tokens::next_token(&src[at..]) {
-        Token::Found {
-            kind: _,
-            at: from,
-            end,
-        } => spelling::token_part(&src[at..], from, end),
-        Token::Refused { number: _, at: _ } => src,
-    }
+    let token = next_token(&src[at..]).unwrap();
+    spelling::token_part(&src[at..], token.at, token.end)
 }
 
 pub(crate) fn put_decimal(src: &[u8], at: usize, out: &mut [u8], to: usize) -> usize

@@ -1,7 +1,7 @@
 -- What a basic begins with: the rules of its readers. Assumes nothing.
 use Prim.Native.Nat.{ℕ, suc, ◌+◌, ◌-◌}
 use native.Mathlib.Omega.{arith}
-use mathlib.Core.Path.{◌≡◌, refl}
+use mathlib.Core.Path.{◌≡◌, refl, ap}
 use mathlib.Core.Bool.{Bool, true, false, not, ◌||◌, false≢true}
 use mathlib.Core.List.{List}
 use lib.ListN.{length}
@@ -12,11 +12,17 @@ use Rattle.paper.specs.Scanner.{next}
 use Rattle.paper.specs.Reader.{path, is_word}
 use Rattle.grammar.specs.Drafts.{draft_word, draft_literal, draft_basic}
 use Rattle.grammar.specs.Places.{here, Shown, Stood}
-use Rattle.grammar.specs.Seen.{OtherSeen, IntegerSeen, DecimalSeen, TextSeen}
+use Rattle.tokens.specs.Kinds.{spelling}
+use Rattle.grammar.specs.Seen.{KindIs, IntegerSeen, DecimalSeen, TextSeen}
 use Rattle.grammar.specs.Paths.{PathSeen}
 use Rattle.grammar.specs.Basics.{rest_vector, BasicFound}
 use Rattle.grammar.specs.declared.basic.Basic.TheVariants.{Boolean, Null, Integer, Decimal, Text, Data, Vector}
-use Rattle.grammar.proofs.Rules.Marks.{expected, missing_mark}
+use Rattle.tokens.specs.declared.names.Word.{Word}
+use Rattle.tokens.specs.declared.names.Word.TheVariants.{Extends, Data as OfData, Null as OfNull, True, False, Root, Parent, This, Attrib, Lazy, Host, Process, Property, Iproperty}
+use Rattle.tokens.specs.declared.Kind.{Kind}
+use Rattle.tokens.specs.declared.Kind.TheVariants.{Name, Word as Reserved, Mark, End}
+use Rattle.tokens.specs.declared.Kind.TheVariants as kinds
+use Rattle.grammar.proofs.Rules.Marks.{stands, no_mark, expected, missing}
 
 -- a token that is none of the words that something begins with
 pub record NoWord (t : Token) : Type 0 where
@@ -41,27 +47,49 @@ free_word n e =
     let f = neither _ _ d.1 in
     record { no_extends = a.0; no_data = b.0; no_null = c.0; no_true = d.0; no_false = f.0 }
 
-pub other_word : {s : List ℕ} {at p e : ℕ} (N : OtherSeen s at p e) → NoWord (name N.spelt)
-other_word N = record { no_extends = N.no_extends; no_data = N.no_data; no_null = N.no_null; no_true = N.no_true; no_false = N.no_false }
-
 module _ (s : List ℕ) (at p : ℕ) where
   -- ---- what no basic begins with
 
-  pub no_basic : (n : List ℕ) → Stood s at (name n) p → NoWord (name n) → (f d : ℕ) → draft_basic (suc f) d (here s at) ≡ refused 3 p
+  no_basic : (n : List ℕ) → Stood s at (name n) p → NoWord (name n) → (f d : ℕ) → draft_basic (suc f) d (here s at) ≡ refused 3 p
   unfolding draft_basic draft_word ◌>>=◌ when◌then◌else◌
   no_basic n N W f d = rw (N.is, draft_word, W.no_true, W.no_false, W.no_null, W.no_data)
 
-  pub extends_basic : {e : ℕ} → Shown s at (name (bytes "extends")) p e → (f d : ℕ) → draft_basic (suc f) d (here s at) ≡ refused 3 p
+  pub word_basic : (e : ℕ) (w : Word) → Shown s at (name (spelling w)) p e → (w ≡ True → ⊥) → (w ≡ False → ⊥) → (w ≡ OfNull → ⊥) → (w ≡ OfData → ⊥)
+      → (f d : ℕ) → draft_basic (suc f) d (here s at) ≡ refused 3 p
   unfolding draft_basic draft_word ◌>>=◌ when◌then◌else◌ is_word
-  extends_basic N f d = rw N.is
+  word_basic e True N t u n b f d = absurd (t refl)
+  word_basic e False N t u n b f d = absurd (u refl)
+  word_basic e OfNull N t u n b f d = absurd (n refl)
+  word_basic e OfData N t u n b f d = absurd (b refl)
+  word_basic e Extends N t u n b f d = rw N.is
+  word_basic e Root N t u n b f d = rw N.is
+  word_basic e Parent N t u n b f d = rw N.is
+  word_basic e This N t u n b f d = rw N.is
+  word_basic e Attrib N t u n b f d = rw N.is
+  word_basic e Lazy N t u n b f d = rw N.is
+  word_basic e Host N t u n b f d = rw N.is
+  word_basic e Process N t u n b f d = rw N.is
+  word_basic e Property N t u n b f d = rw N.is
+  word_basic e Iproperty N t u n b f d = rw N.is
 
-  pub end_basic : Stood s at end p → (f d : ℕ) → draft_basic (suc f) d (here s at) ≡ refused 3 p
+  end_basic : Stood s at end p → (f d : ℕ) → draft_basic (suc f) d (here s at) ≡ refused 3 p
   unfolding draft_basic ◌>>=◌
   end_basic N f d = rw N.is
 
   pub mark_basic : {m e : ℕ} → Shown s at (mark m) p e → (m ≡ 91 → ⊥) → (f d : ℕ) → draft_basic (suc f) d (here s at) ≡ refused 3 p
   unfolding draft_basic ◌>>=◌
-  mark_basic N ne f d = rw (N.is, missing_mark s at p N 91 ne "[" refl)
+  mark_basic N ne f d = rw (N.is, missing (no_mark s at p _ (Mark _) N 91 (λ z. let e : _ ≡ 91 = cc in ne e)) "[" refl)
+
+  -- a token that is no word and no literal; of marks only another than the bracket
+  pub other_basic : (e : ℕ) (k : Kind) → KindIs s at p e k → ((w : Word) → k ≡ Reserved w → ⊥) → ((x : ℕ) → k ≡ kinds.Integer x → ⊥) → (k ≡ kinds.Decimal → ⊥)
+      → ((n : ℕ) → k ≡ kinds.Text n → ⊥) → (k ≡ Mark 91 → ⊥) → (f d : ℕ) → draft_basic (suc f) d (here s at) ≡ refused 3 p
+  other_basic e Name N w i c t m = no_basic _ (stands N.shown) (free_word _ N.free)
+  other_basic e (Reserved x) N w i c t m = absurd (w x refl)
+  other_basic e (kinds.Integer x) N w i c t m = absurd (i x refl)
+  other_basic e kinds.Decimal N w i c t m = absurd (c refl)
+  other_basic e (kinds.Text n) N w i c t m = absurd (t n refl)
+  other_basic e (Mark b) N w i c t m = mark_basic N (λ z. m (ap Mark z))
+  other_basic e End N w i c t m = end_basic N
 
   pub fault_basic : (n : ℕ) → next (here s at) ≡ refused n p → (f d : ℕ) → draft_basic (suc f) d (here s at) ≡ refused n p
   unfolding draft_basic ◌>>=◌

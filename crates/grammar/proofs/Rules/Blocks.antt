@@ -1,4 +1,5 @@
 -- Blocks and prototype lists: the rules of their readers. Assumes nothing.
+use Rattle.std.specs.Prelude.{Ok, Err}
 use Prim.Native.Nat.{ℕ, suc, ◌+◌, ◌-◌, ◌≤◌}
 use Prim.Native.Char.{Char, code}
 use native.Mathlib.Omega.{arith}
@@ -21,19 +22,23 @@ use Rattle.grammar.specs.Places.{here, Shown}
 use Rattle.grammar.specs.Seen.{NotMark}
 use Rattle.grammar.specs.Paths.{RefSeen, NoName, RefFault, no_token, no_path}
 use Rattle.grammar.specs.Puts.{path_row, put_row, puts, Frame}
-use Rattle.grammar.specs.Went.{PassIs, Answers}
+use Rattle.grammar.specs.Went.{Went, moved_to, one_more, PassIs, Answers}
 use Rattle.grammar.specs.Readers.{Fit, itself, StatementsRead, PrototypesRead, draft_block, BlockRead}
+use Rattle.refusal.specs.declared.Refusal.{Refusal}
+use Rattle.refusal.specs.declared.Reason.TheVariants.{TooManyOpenings}
+use Rattle.kinds.specs.Numbers.{step_number}
+use Rattle.kinds.specs.declared.Step.{Step}
+use Rattle.kinds.specs.declared.Step.TheVariants.{Take, Enter, Leave}
+use Rattle.grammar.specs.Refusals.{Refuses}
 use Rattle.grammar.specs.declared.cursor.Cursor.{Cursor}
-use Rattle.grammar.specs.declared.cursor.Went.{Went}
-use Rattle.grammar.specs.declared.cursor.Went.TheVariants.{Done, Refused}
 use Rattle.grammar.proofs.Rules.Marks.{expected, missing_fault}
 use Rattle.grammar.proofs.Rules.Puts.{twenty, put_frame, frame_same, frame_then, puts_append, size_append}
 use Rattle.grammar.proofs.Rules.Answers.{fuel, after, keep, ahead_after, ahead_back}
 use Rattle.grammar.proofs.Rules.Items.{cursor}
 
 -- the row of a step with a path and no more has 20 bytes
-pub path_frame : (b : List ℕ) (n i p : ℕ) → Frame b (put_row b n (path_row i p))
-path_frame b n i p = put_frame b n (path_row i p) (twenty i 0 0 p _ _)
+pub path_frame : (b : List ℕ) (n : ℕ) (i : Step) (p : ℕ) → Frame b (put_row b n (path_row i p))
+path_frame b n i p = put_frame b n (path_row i p) (twenty (step_number i) 0 0 p _ _)
 
 -- drafts between two
 pub between : (b₀ b₁ b₂ b₃ : List ℕ) (n m : ℕ) (x y : Draft) (ds : List Draft)
@@ -48,7 +53,7 @@ between b₀ b₁ b₂ b₃ n m x y ds e₁ e₂ q e₃ =
 pub between_count : (n m : ℕ) (x y : Draft) (ds : List Draft) → m ≡ n + 1 + length ds → m + 1 ≡ n + length (x ∷ ds ++ (y ∷ []))
 between_count n m x y ds e = omega (arith, length-append ds (y ∷ []))
 
-pub between_text : (t u : ℕ) (x y : Draft) (ds : List Draft) → y.size ≡ 0 → u ≡ t + x.size + text_size ds → u ≡ t + text_size (x ∷ ds ++ (y ∷ []))
+pub between_text : (t u : ℕ) (x y : Draft) (ds : List Draft) → y.size ≡ 0 → u ≡ t + x.size + text_size ds → u + 0 ≡ t + text_size (x ∷ ds ++ (y ∷ []))
 unfolding text_size
 between_text t u x y ds z e = omega (arith, size_append ds (y ∷ []))
 
@@ -70,48 +75,48 @@ if_same true x e = e
 if_same false x e = refl
 
 module _ (s : List ℕ) (from : Cursor) (d : ℕ) (b₀ : List ℕ) where
-  pub block_missing : (n p : ℕ) → ((c : Char) → code c ≡ 123 → expect c (here s from.at) ≡ refused n p) → BlockRead s from d b₀ b₀ (Refused n p)
+  pub block_missing : (x : Refusal) → ((c : Char) → code c ≡ 123 → Refuses (expect c (here s from.at)) x) → BlockRead s from d b₀ b₀ (Err x)
   unfolding draft_block
-  block_missing n p E =
+  block_missing x E =
       record {
         is = λ m le. record {
-          is = refused_after (next (here s from.at)) (expect "{" (here s from.at)) n p _ (E "{" refl) (λ u v q. missing_fault s from.at v u q 123 "{" refl);
+          is = refused_after (next (here s from.at)) (expect "{" (here s from.at)) _ _ _ (E "{" refl) (λ u v q. missing_fault s from.at q "{");
           frame = frame_same b₀;
         };
         ahead = tt;
       }
 
   module _ (p e : ℕ) (M : Shown s from.at (mark 123) p e) where
-    pub block_deep : d ≡ 0 → BlockRead s from d b₀ b₀ (Refused 5 p)
+    pub block_deep : d ≡ 0 → BlockRead s from d b₀ b₀ (Err (record { reason = TooManyOpenings; place = p }))
     unfolding draft_block ◌>>=◌ demand
     block_deep z = record { is = λ m le. record { is = rw (M.is, expected "{" M, z); frame = frame_same b₀ }; ahead = tt }
 
-    module _ (h : d ≡ 0 → ⊥) (b₁ : List ℕ) (w₁ : b₁ ≡ put_row b₀ from.count (path_row 3 0)) (b₂ : List ℕ) where
+    module _ (h : d ≡ 0 → ⊥) (b₁ : List ℕ) (w₁ : b₁ ≡ put_row b₀ from.count (path_row Enter 0)) (b₂ : List ℕ) where
       open_left : ltb 0 d ≡ true
       open_left = lt-ltb 0 d (omega arith)
 
       entered : Frame b₀ b₁
-      entered = rw w₁ (path_frame b₀ from.count 3 0)
+      entered = rw w₁ (path_frame b₀ from.count Enter 0)
 
-      pub block_no : (n q : ℕ) → StatementsRead s (cursor e (from.count + 1) from.text) (d - 1) b₁ b₂ (Refused n q) → BlockRead s from d b₀ b₂ (Refused n q)
+      pub block_no : (x : Refusal) → StatementsRead s (one_more (moved_to from e) 0) (d - 1) b₁ b₂ (Err x) → BlockRead s from d b₀ b₂ (Err x)
       unfolding draft_block ◌>>=◌ demand
-      block_no n q S =
+      block_no x S =
           record {
             is = λ m le. let w = S.is m (omega (arith, M)) in record { is = rw (M.is, expected "{" M, open_left, w.is); frame = frame_then entered w.frame };
             ahead = tt;
           }
 
-      module _ (mid : Cursor) (S : StatementsRead s (cursor e (from.count + 1) from.text) (d - 1) b₁ b₂ (Done mid)) where
-        pub block_open : (n q : ℕ) → ((c : Char) → code c ≡ 125 → expect c (here s mid.at) ≡ refused n q) → BlockRead s from d b₀ b₂ (Refused n q)
+      module _ (mid : Cursor) (S : StatementsRead s (one_more (moved_to from e) 0) (d - 1) b₁ b₂ (Ok mid)) where
+        pub block_open : (x : Refusal) → ((c : Char) → code c ≡ 125 → Refuses (expect c (here s mid.at)) x) → BlockRead s from d b₀ b₂ (Err x)
         unfolding draft_block ◌>>=◌ demand
-        block_open n q E =
+        block_open x E =
             record {
               is = λ m le. let w = S.is m (omega (arith, M)) in record { is = rw (M.is, expected "{" M, open_left, w.is, E "}" refl); frame = frame_then entered w.frame };
               ahead = tt;
             }
 
-        pub block_done : (q g : ℕ) (b₃ : List ℕ) → Shown s mid.at (mark 125) q g → b₃ ≡ put_row b₂ mid.count (path_row 4 0)
-            → BlockRead s from d b₀ b₃ (Done (cursor g (mid.count + 1) mid.text))
+        pub block_done : (q g : ℕ) (b₃ : List ℕ) → Shown s mid.at (mark 125) q g → b₃ ≡ put_row b₂ mid.count (path_row Leave 0)
+            → BlockRead s from d b₀ b₃ (Ok (one_more (moved_to mid g) 0))
         unfolding draft_block ◌>>=◌ demand bare_draft draft
         block_done q g b₃ C w₃ =
             record {
@@ -123,7 +128,7 @@ module _ (s : List ℕ) (from : Cursor) (d : ℕ) (b₀ : List ℕ) where
                     count = between_count from.count mid.count (bare_draft 3) (bare_draft 4) w.it w.count;
                     text = between_text from.text mid.text (bare_draft 3) (bare_draft 4) w.it refl (omega (arith, w.text));
                     work = between b₀ b₁ b₂ b₃ from.count mid.count (bare_draft 3) (bare_draft 4) w.it w₁ w.work w.count w₃;
-                    frame = frame_then entered (frame_then w.frame (rw w₃ (path_frame b₂ mid.count 4 0)));
+                    frame = frame_then entered (frame_then w.frame (rw w₃ (path_frame b₂ mid.count Leave 0)));
                   };
               ahead = record { on = omega (arith, M, S.ahead, C); within = C.within; few = omega (arith, M, S.ahead, C); light = omega (arith, M, S.ahead, C) };
             }
@@ -157,17 +162,17 @@ module _ (s : List ℕ) (from : Cursor) (d : ℕ) (b₀ : List ℕ) where
   abbrev PrototypesOut : List ℕ → Went → ℕ → Type 0
   PrototypesOut b₁ r n = Answers itself s b₀ b₁ from r (draft_prototypes n d (here s from.at))
 
-  pub prototypes_fault : (n p : ℕ) → RefFault s from.at n p → PrototypesRead s from d b₀ b₀ (Refused n p)
+  pub prototypes_fault : (x : Refusal) → RefFault s from.at x → PrototypesRead s from d b₀ b₀ (Err x)
   unfolding draft_prototypes ◌>>=◌ when◌then◌else◌
-  prototypes_fault n p (no_token e) =
-      record { is = fuel (PrototypesOut b₀ (Refused n p)) _ (omega arith) (λ m le. record { is = rw e; frame = frame_same b₀ }); ahead = tt }
-  prototypes_fault n p (no_path N i e) =
-      record { is = fuel (PrototypesOut b₀ (Refused n p)) _ (omega arith) (λ m le. record { is = rw (N.is, i, e); frame = frame_same b₀ }); ahead = tt }
+  prototypes_fault x (no_token e) =
+      record { is = fuel (PrototypesOut b₀ (Err x)) _ (omega arith) (λ m le. record { is = rw e; frame = frame_same b₀ }); ahead = tt }
+  prototypes_fault x (no_path N i e) =
+      record { is = fuel (PrototypesOut b₀ (Err x)) _ (omega arith) (λ m le. record { is = rw (N.is, i, e); frame = frame_same b₀ }); ahead = tt }
 
   -- a prototype that is a reference
-  module _ (p e z : ℕ) (R : RefSeen s from.at p e z) (b₁ : List ℕ) (w₁ : b₁ ≡ put_row b₀ from.count (path_row 2 p)) where
+  module _ (p e z : ℕ) (R : RefSeen s from.at p e z) (b₁ : List ℕ) (w₁ : b₁ ≡ put_row b₀ from.count (path_row Take p)) where
     taken : Frame b₀ b₁
-    taken = rw w₁ (path_frame b₀ from.count 2 p)
+    taken = rw w₁ (path_frame b₀ from.count Take p)
 
     the_draft : Draft
     the_draft = take_draft p (length (path_text R.whole.spelt))
@@ -180,25 +185,25 @@ module _ (s : List ℕ) (from : Cursor) (d : ℕ) (b₀ : List ℕ) where
     unfolding text_size the_draft take_draft draft
     one_sized = omega (arith, R.whole.size)
 
-    pub ref_fault : (n q : ℕ) → next (here s e) ≡ refused n q → PrototypesRead s from d b₀ b₁ (Refused n q)
+    pub ref_fault : (x : Refusal) → Refuses (next (here s e)) x → PrototypesRead s from d b₀ b₁ (Err x)
     unfolding draft_prototypes ◌>>=◌ when◌then◌else◌
-    ref_fault n q f =
+    ref_fault x f =
         record {
-          is = fuel (PrototypesOut b₁ (Refused n q)) _ (omega arith) (λ m le. record { is = rw (R.stood.is, R.named, R.whole.is, f); frame = taken });
+          is = fuel (PrototypesOut b₁ (Err x)) _ (omega arith) (λ m le. record { is = rw (R.stood.is, R.named, R.whole.is, f); frame = taken });
           ahead = tt;
         }
 
-    pub ref_last : NotMark s e 44 → (r : Went) → PassIs s (cursor e (from.count + 1) (from.text + z)) 59 r → PrototypesRead s from d b₀ b₁ r
+    pub ref_last : NotMark s e 44 → (r : Went) → PassIs s (one_more (moved_to from e) z) 59 r → PrototypesRead s from d b₀ b₁ r
     unfolding draft_prototypes ◌>>=◌ when◌then◌else◌ the_draft
-    ref_last M (Refused n q) P =
+    ref_last M (Err x) P =
         record {
-          is = fuel (PrototypesOut b₁ (Refused n q)) _ (omega arith)
+          is = fuel (PrototypesOut b₁ (Err x)) _ (omega arith)
               (λ m le. record { is = rw (R.stood.is, R.named, R.whole.is, M.stood.is, M.other "," refl, P ";" refl); frame = taken });
           ahead = tt;
         }
-    ref_last M (Done to) P =
+    ref_last M (Ok to) P =
         record {
-          is = fuel (PrototypesOut b₁ (Done to)) _ (omega arith)
+          is = fuel (PrototypesOut b₁ (Ok to)) _ (omega arith)
               (λ m le. record {
                 it = the_draft ∷ [];
                 is = rw (R.stood.is, R.named, R.whole.is, M.stood.is, M.other "," refl, expected ";" P.shown);
@@ -231,30 +236,30 @@ module _ (s : List ℕ) (from : Cursor) (d : ℕ) (b₀ : List ℕ) where
 
   -- a prototype that is a block
   module _ (N : NoName s from.at) (b₁ : List ℕ) where
-    pub inner_no : (n p : ℕ) → BlockRead s from d b₀ b₁ (Refused n p) → PrototypesRead s from d b₀ b₁ (Refused n p)
+    pub inner_no : (x : Refusal) → BlockRead s from d b₀ b₁ (Err x) → PrototypesRead s from d b₀ b₁ (Err x)
     unfolding ◌>>=◌
-    inner_no n p B =
+    inner_no x B =
         record {
-          is = fuel (PrototypesOut b₁ (Refused n p)) _ (omega arith)
+          is = fuel (PrototypesOut b₁ (Err x)) _ (omega arith)
               (λ m le. let w = B.is m (omega arith) in record { is = block_first s from.at m d N ∙ rw w.is; frame = w.frame });
           ahead = tt;
         }
 
-    module _ (mid : Cursor) (B : BlockRead s from d b₀ b₁ (Done mid)) where
-      pub inner_fault : (n p : ℕ) → next (here s mid.at) ≡ refused n p → PrototypesRead s from d b₀ b₁ (Refused n p)
+    module _ (mid : Cursor) (B : BlockRead s from d b₀ b₁ (Ok mid)) where
+      pub inner_fault : (x : Refusal) → Refuses (next (here s mid.at)) x → PrototypesRead s from d b₀ b₁ (Err x)
       unfolding ◌>>=◌ after_block
-      inner_fault n p f =
+      inner_fault x f =
           record {
-            is = fuel (PrototypesOut b₁ (Refused n p)) _ (omega arith)
+            is = fuel (PrototypesOut b₁ (Err x)) _ (omega arith)
                 (λ m le. let w = B.is m (omega arith) in record { is = block_first s from.at m d N ∙ rw (w.is, f); frame = w.frame });
             ahead = tt;
           }
 
-      pub inner_last : NotMark s mid.at 44 → PrototypesRead s from d b₀ b₁ (Done mid)
+      pub inner_last : NotMark s mid.at 44 → PrototypesRead s from d b₀ b₁ (Ok mid)
       unfolding ◌>>=◌ after_block when◌then◌else◌
       inner_last M =
           record {
-            is = fuel (PrototypesOut b₁ (Done mid)) _ (omega arith)
+            is = fuel (PrototypesOut b₁ (Ok mid)) _ (omega arith)
                 (λ m le.
                 let w = B.is m (omega arith) in
                 record { it = w.it; is = block_first s from.at m d N ∙ rw (w.is, M.stood.is, M.other "," refl); count = w.count; text = w.text; work = w.work; frame = w.frame });
@@ -277,7 +282,6 @@ module _ (s : List ℕ) (from : Cursor) (d : ℕ) (b₀ : List ℕ) where
 
 -- the loop that reads prototypes: whatever is read from here on is, with what was read before, what is read from the start
 pub record PrototypesLoop (s : List ℕ) (from : Cursor) (d : ℕ) (b₀ b : List ℕ) (c : Cursor) : Type 0 where
-  pub fit : Fit s c b
+  pub fit : Fit s c
   pub on : from.at ≤ c.at
-  pub long : length b ≡ length b₀
   pub onward : (e : List ℕ) (r : Went) → PrototypesRead s c d b e r → PrototypesRead s from d b₀ e r

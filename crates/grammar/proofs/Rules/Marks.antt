@@ -1,29 +1,30 @@
 -- What single tokens are not, and what a mark is. Assumes nothing.
 use Prim.Native.Nat.{ℕ}
 use Prim.Native.Char.{Char, code}
-use mathlib.Core.Path.{◌≡◌, refl, sym, ◌∙◌}
+use mathlib.Core.Path.{◌≡◌, refl, sym, ap, ◌∙◌}
 use mathlib.Core.Bool.{false}
 use mathlib.Core.List.{List}
 use borrow.Author.Tests.{eq-eqb, ne_eqb}
 use Rattle.paper.specs.Answer.{refused, ok, ◌>>=◌, demand}
 use Rattle.paper.specs.Tokens.{Token, name, mark, end, is_name, is_mark, member, reserved}
 use Rattle.paper.specs.Scanner.{next}
-use Rattle.paper.specs.Reader.{expect}
+use Rattle.paper.specs.Reader.{expect, is_end}
 use Rattle.grammar.specs.Places.{here, Shown, Stood}
-use Rattle.grammar.specs.Seen.{NameSeen, WordIs, LiteralIs, SeenIs, NotMark}
+use Rattle.tokens.specs.Kinds.{spelling}
+use Rattle.grammar.specs.Seen.{KindIs, NotMark, ends, Unlike, absent, another}
+use Rattle.grammar.specs.Refusals.{Refuses}
+use Rattle.refusal.specs.declared.Refusal.{Refusal}
 use Rattle.grammar.specs.Paths.{NoName}
-use Rattle.grammar.specs.declared.token.Word.{Word}
-use Rattle.grammar.specs.declared.token.Word.TheVariants.{Extends, Data, Null, True, False, Other}
-use Rattle.grammar.specs.declared.token.Seen.{Seen}
-use Rattle.grammar.specs.declared.token.Seen.TheVariants.{Reserved, Written}
-use Rattle.grammar.specs.declared.token.Literal.{Literal}
-use Rattle.grammar.specs.declared.token.Literal.TheVariants.{Integer, Decimal, Text}
+use Rattle.tokens.specs.declared.names.Word.{Word}
+use Rattle.tokens.specs.declared.names.Word.TheVariants.{Extends, Data, Null, True, False, Root, Parent, This, Attrib, Lazy, Host, Process, Property, Iproperty}
+use Rattle.tokens.specs.declared.Kind.{Kind}
+use Rattle.tokens.specs.declared.Kind.TheVariants.{Name, Word as Reserved, Integer, Decimal, Text, Mark, End}
 
--- a token at p that is no mark
-pub record NoMark (s : List ℕ) (at p : ℕ) : Type 0 where
+-- a token at p that is not the mark b
+pub record NoMark (s : List ℕ) (at p b : ℕ) : Type 0 where
   pub token : Token
   pub stood : Stood s at token p
-  pub other : (c : Char) → is_mark c token ≡ false
+  pub other : (c : Char) → code c ≡ b → is_mark c token ≡ false
 
 -- a token at p that is no name
 pub record Unnamed (s : List ℕ) (at p : ℕ) : Type 0 where
@@ -38,97 +39,96 @@ other_mark : (m b : ℕ) → (m ≡ b → ⊥) → (c : Char) → code c ≡ b �
 unfolding is_mark
 other_mark m b ne c q = ne_eqb (code c) m (λ e. ne (sym e ∙ q))
 
-module _ (s : List ℕ) (at p : ℕ) where
-  -- ---- no mark
+pub word_reserved : (w : Word) → is_name (name (spelling w)) ≡ false
+unfolding is_name member reserved
+word_reserved Extends = refl
+word_reserved Data = refl
+word_reserved Null = refl
+word_reserved True = refl
+word_reserved False = refl
+word_reserved Root = refl
+word_reserved Parent = refl
+word_reserved This = refl
+word_reserved Attrib = refl
+word_reserved Lazy = refl
+word_reserved Host = refl
+word_reserved Process = refl
+word_reserved Property = refl
+word_reserved Iproperty = refl
 
-  pub name_no_mark : {e : ℕ} → NameSeen s at p e → NoMark s at p
+module _ (s : List ℕ) (at p e : ℕ) where
+  -- a token of another kind than the mark b
+  pub no_mark : (k : Kind) → KindIs s at p e k → (b : ℕ) → (k ≡ Mark b → ⊥) → NoMark s at p b
   unfolding is_mark
-  name_no_mark N = record { token = name N.spelt; stood = stands N.shown; other = λ c. refl }
+  no_mark Name N b ne = record { token = name N.spelt; stood = stands N.shown; other = λ c q. refl }
+  no_mark (Reserved w) N b ne = record { token = name (spelling w); stood = stands N; other = λ c q. refl }
+  no_mark (Integer x) N b ne = record { token = _; stood = stands N.shown; other = λ c q. refl }
+  no_mark Decimal N b ne = record { token = _; stood = stands N.shown; other = λ c q. refl }
+  no_mark (Text n) N b ne = record { token = _; stood = stands N.shown; other = λ c q. refl }
+  no_mark (Mark m) N b ne = record { token = mark m; stood = stands N; other = other_mark m b (λ z. ne (ap Mark z)) }
+  no_mark End N b ne = record { token = end; stood = N; other = λ c q. refl }
 
-  word_no_mark : (e : ℕ) (w : Word) → WordIs s at p e w → NoMark s at p
-  unfolding is_mark
-  word_no_mark e Extends N = record { token = _; stood = stands N; other = λ c. refl }
-  word_no_mark e Data N = record { token = _; stood = stands N; other = λ c. refl }
-  word_no_mark e Null N = record { token = _; stood = stands N; other = λ c. refl }
-  word_no_mark e True N = record { token = _; stood = stands N; other = λ c. refl }
-  word_no_mark e False N = record { token = _; stood = stands N; other = λ c. refl }
-  word_no_mark e Other N = record { token = _; stood = stands N.shown; other = λ c. refl }
-
-  literal_no_mark : (e : ℕ) (l : Literal) → LiteralIs s at p e l → NoMark s at p
-  unfolding is_mark
-  literal_no_mark e (Integer x) N = record { token = _; stood = stands N.shown; other = λ c. refl }
-  literal_no_mark e Decimal N = record { token = _; stood = stands N.shown; other = λ c. refl }
-  literal_no_mark e (Text n) N = record { token = _; stood = stands N.shown; other = λ c. refl }
-
-  pub reserved_no_mark : (x : Seen) (w : Word) (e : ℕ) → x ≡ Reserved w p e → SeenIs s at x → NoMark s at p
-  reserved_no_mark x w e q N = word_no_mark e w (rw q at N)
-
-  pub written_no_mark : (x : Seen) (l : Literal) (e : ℕ) → x ≡ Written l p e → SeenIs s at x → NoMark s at p
-  written_no_mark x l e q N = literal_no_mark e l (rw q at N)
-
-  pub end_no_mark : Stood s at end p → NoMark s at p
-  unfolding is_mark
-  end_no_mark N = record { token = end; stood = N; other = λ c. refl }
-
-  -- ---- no name
-
-  word_unnamed : (e : ℕ) (w : Word) → WordIs s at p e w → Unnamed s at p
-  unfolding is_name member reserved
-  word_unnamed e Extends N = record { token = _; stood = stands N; other = refl }
-  word_unnamed e Data N = record { token = _; stood = stands N; other = refl }
-  word_unnamed e Null N = record { token = _; stood = stands N; other = refl }
-  word_unnamed e True N = record { token = _; stood = stands N; other = refl }
-  word_unnamed e False N = record { token = _; stood = stands N; other = refl }
-  word_unnamed e Other N = record { token = _; stood = stands N.shown; other = N.taken }
-
-  literal_unnamed : (e : ℕ) (l : Literal) → LiteralIs s at p e l → Unnamed s at p
+  -- a token of another kind than a name
+  pub unnamed : (k : Kind) → KindIs s at p e k → (k ≡ Name → ⊥) → Unnamed s at p
   unfolding is_name
-  literal_unnamed e (Integer x) N = record { token = _; stood = stands N.shown; other = refl }
-  literal_unnamed e Decimal N = record { token = _; stood = stands N.shown; other = refl }
-  literal_unnamed e (Text n) N = record { token = _; stood = stands N.shown; other = refl }
+  unnamed Name N ne = absurd (ne refl)
+  unnamed (Reserved w) N ne = record { token = name (spelling w); stood = stands N; other = word_reserved w }
+  unnamed (Integer x) N ne = record { token = _; stood = stands N.shown; other = refl }
+  unnamed Decimal N ne = record { token = _; stood = stands N.shown; other = refl }
+  unnamed (Text n) N ne = record { token = _; stood = stands N.shown; other = refl }
+  unnamed (Mark m) N ne = record { token = mark m; stood = stands N; other = refl }
+  unnamed End N ne = record { token = end; stood = N; other = refl }
 
-  pub reserved_unnamed : (x : Seen) (w : Word) (e : ℕ) → x ≡ Reserved w p e → SeenIs s at x → Unnamed s at p
-  reserved_unnamed x w e q N = word_unnamed e w (rw q at N)
+  not_ended : {t : Token} → Stood s at t p → is_end t ≡ false → ends (here s at) ≡ refused 3 p
+  unfolding ends ◌>>=◌ demand
+  not_ended N i = rw (N.is, i)
 
-  pub written_unnamed : (x : Seen) (l : Literal) (e : ℕ) → x ≡ Written l p e → SeenIs s at x → Unnamed s at p
-  written_unnamed x l e q N = literal_unnamed e l (rw q at N)
+  -- a token of another kind than the end
+  goes_on : (k : Kind) → KindIs s at p e k → (k ≡ End → ⊥) → ends (here s at) ≡ refused 3 p
+  unfolding is_end
+  goes_on Name N ne = not_ended (stands N.shown) refl
+  goes_on (Reserved w) N ne = not_ended (stands N) refl
+  goes_on (Integer x) N ne = not_ended (stands N.shown) refl
+  goes_on Decimal N ne = not_ended (stands N.shown) refl
+  goes_on (Text n) N ne = not_ended (stands N.shown) refl
+  goes_on (Mark m) N ne = not_ended (stands N) refl
+  goes_on End N ne = absurd (ne refl)
 
-  pub mark_unnamed : {m e : ℕ} → Shown s at (mark m) p e → Unnamed s at p
-  unfolding is_name
-  mark_unnamed N = record { token = _; stood = stands N; other = refl }
+pub is_ended : {s : List ℕ} {at p : ℕ} → Stood s at end p → ends (here s at) ≡ ok tt
+unfolding ends ◌>>=◌ demand is_end
+is_ended N = rw N.is
 
-  pub end_unnamed : Stood s at end p → Unnamed s at p
-  unfolding is_name
-  end_unnamed N = record { token = end; stood = N; other = refl }
+ends_fault : (s : List ℕ) (at : ℕ) {n p : ℕ} → next (here s at) ≡ refused n p → ends (here s at) ≡ refused n p
+unfolding ends ◌>>=◌
+ends_fault s at e = rw e
 
-  pub no_name : Unnamed s at p → NoName s at
-  no_name U = record { token = U.token; place = p; stood = U.stood; other = U.other }
+pub not_the_end : {s : List ℕ} {at : ℕ} {e : Refusal} → Unlike s at End e → Refuses (ends (here s at)) e
+not_the_end {s} {at} (absent f) = ends_fault s at f
+not_the_end {s} {at} {e} (another j m N ne r) = rw r (goes_on s at e.place m j N ne)
 
-  -- ---- a mark that is expected
+pub no_name : {s : List ℕ} {at p : ℕ} → Unnamed s at p → NoName s at
+no_name {p = p} U = record { token = U.token; place = p; stood = U.stood; other = U.other }
 
-  expect_other : {t : Token} → Stood s at t p → (c : Char) → is_mark c t ≡ false → expect c (here s at) ≡ refused 3 p
-  unfolding expect ◌>>=◌ demand
-  expect_other N c e = rw (N.is, e)
+-- ---- a mark that is expected
 
-  pub missing : NoMark s at p → (b : ℕ) (c : Char) → code c ≡ b → expect c (here s at) ≡ refused 3 p
-  missing N b c q = expect_other N.stood c (N.other c)
+pub missing : {s : List ℕ} {at p b : ℕ} → NoMark s at p b → (c : Char) → code c ≡ b → expect c (here s at) ≡ refused 3 p
+unfolding expect ◌>>=◌ demand
+missing N c q = rw (N.stood.is, N.other c q)
 
-  pub missing_mark : {m e : ℕ} → Shown s at (mark m) p e → (b : ℕ) → (m ≡ b → ⊥) → (c : Char) → code c ≡ b → expect c (here s at) ≡ refused 3 p
-  missing_mark {m} N b ne c q = expect_other (stands N) c (other_mark m b ne c q)
+pub missing_fault : (s : List ℕ) (at : ℕ) {n p : ℕ} → next (here s at) ≡ refused n p → (c : Char) → expect c (here s at) ≡ refused n p
+unfolding expect ◌>>=◌
+missing_fault s at e c = rw e
 
-  pub missing_fault : (n : ℕ) → next (here s at) ≡ refused n p → (b : ℕ) (c : Char) → code c ≡ b → expect c (here s at) ≡ refused n p
-  unfolding expect ◌>>=◌
-  missing_fault n e b c q = rw e
-
-  -- ---- a mark that may stand here
-
-  pub not_mark : NoMark s at p → (b : ℕ) → NotMark s at b
-  not_mark N b = record { token = N.token; place = p; stood = N.stood; other = λ c q. N.other c }
-
-  pub not_this_mark : {m e : ℕ} → Shown s at (mark m) p e → (b : ℕ) → (m ≡ b → ⊥) → NotMark s at b
-  not_this_mark {m} N b ne = record { token = mark m; place = p; stood = stands N; other = λ c q. other_mark m b ne c q }
+pub no_such_mark : {s : List ℕ} {at b : ℕ} {e : Refusal} → Unlike s at (Mark b) e → (c : Char) → code c ≡ b → Refuses (expect c (here s at)) e
+no_such_mark {s} {at} (absent f) c q = missing_fault s at f c
+no_such_mark {s} {at} {b} {e} (another j m N ne r) c q = rw r (missing (no_mark s at e.place m j N b ne) c q)
 
 -- the mark that is expected
 pub expected : {s : List ℕ} {at p e : ℕ} (c : Char) → Shown s at (mark (code c)) p e → expect c (here s at) ≡ ok (here s e)
 unfolding expect ◌>>=◌ demand is_mark
 expected c N = rw (N.is, eq-eqb (code c) (code c) refl)
+
+-- ---- a mark that may stand here
+
+pub not_mark : {s : List ℕ} {at p b : ℕ} → NoMark s at p b → NotMark s at b
+not_mark {p = p} N = record { token = N.token; place = p; stood = N.stood; other = N.other }

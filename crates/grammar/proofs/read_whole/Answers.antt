@@ -1,28 +1,17 @@
 -- `read_whole`: the statements, and the end. Assumes nothing.
-use native.Mathlib.Omega.{arith}
+use Rattle.grammar.proofs.Rules.Refusals.{handed_on}
 use Rattle.grammar.proofs.Rules.Whole.{whole_no, whole_more, whole_done}
+use Rattle.grammar.proofs.Rules.Marks.{not_the_end, is_ended}
 use Rattle.grammar.proofs.read_whole.Goals as goal
 
-pub read_statements-requires : goal.read_statements-requires
-read_statements-requires c = record { fits = record { short = c.requires.0; within = omega arith; room = c.requires.1 }; few = omega arith; light = omega arith }
+pub returns-in_err-to : goal.returns-in_err-to
+returns-in_err-to c =
+    rw (handed_on c.from_residual.result c.from_residual.ensures.1) (whole_no _ c.requires _ _ _ c.in_err-to.ensures)
 
-pub end_at-requires : goal.end_at-requires
-end_at-requires c = let S = rw c.in-Done.is at c.read_statements.ensures in S.ahead.within
+pub returns-in_err-expect : goal.returns-in_err-expect
+returns-in_err-expect c =
+    rw (handed_on c.from_residual-in_err-expect.result c.from_residual-in_err-expect.ensures.1)
+    (whole_more _ c.requires _ _ _ c.in_ok-to.ensures _ (not_the_end c.in_err-expect.ensures))
 
-pub shape_of-work-in-Ended : goal.shape_of-work-in-Ended
-shape_of-work-in-Ended c = c.read_statements.auto.work
-
-pub returns-in-Ended : goal.returns-in-Ended
-returns-in-Ended c = whole_done _ c.requires.0 _ _ _ (rw c.in-Done.is at c.read_statements.ensures) (rw c.in-Ended.is at c.end_at.ensures)
-
-pub shape_of-work-in-Refused-end_at : goal.shape_of-work-in-Refused-end_at
-shape_of-work-in-Refused-end_at c = c.read_statements.auto.work
-
-pub returns-in-Refused-end_at : goal.returns-in-Refused-end_at
-returns-in-Refused-end_at c = whole_more _ c.requires.0 _ _ _ (rw c.in-Done.is at c.read_statements.ensures) _ _ (rw c.in-Refused-end_at.is at c.end_at.ensures)
-
-pub shape_of-work-in-Refused : goal.shape_of-work-in-Refused
-shape_of-work-in-Refused c = c.read_statements.auto.work
-
-pub returns-in-Refused : goal.returns-in-Refused
-returns-in-Refused c = whole_no _ c.requires.0 _ _ _ _ (rw c.in-Refused.is at c.read_statements.ensures)
+pub returns : goal.returns
+returns c = whole_done _ c.requires _ _ _ c.in_ok-to.ensures (is_ended c.in_ok-expect.ensures)

@@ -17,7 +17,6 @@ use Rattle.paper.specs.Layout.{Field, text, Row, little, path_text, long_text, t
 use Rattle.paper.specs.Steps.{Step, make, take, enter, leave, done, set, link}
 use Rattle.paper.specs.StepLayout.{step_row, item, step_rows, all_rows}
 use Rattle.theorems.proofs.Decoded.Parts.{length_little}
-use Rattle.theorems.proofs.Decoded.Header.{Lasts}
 use Rattle.theorems.proofs.Decoded.Rows.{kind_below}
 use Rattle.paper.specs.DecodeAt.{word}
 use Rattle.memory.specs.Memory.{word_at}
@@ -25,10 +24,10 @@ use Rattle.memory.proofs.Laws.{word_in, same_word, word_little, fit, stored_sets
 use Rattle.grammar.specs.Drafts.{Draft, text_size}
 use Rattle.grammar.specs.Puts.{put_row, puts, Frame}
 use Rattle.grammar.specs.Ties.{Labelled, no_label, path_label, Valued, same_number, path_value, decimal_value, string_value, Tied, AllTied, none, also}
-use Rattle.grammar.proofs.Rules.Puts.{Twenty, put_in, put_out, put_frame, frame_same, frame_then}
+use Rattle.grammar.proofs.Rules.Puts.{put_in, put_out, put_frame, frame_same, frame_then}
 use Rattle.translate.specs.Settled.{path_at, said_by, said_in, said_at, is_long, label_at, value_at, fields_at, settled, rows_at, PathThere, DecimalThere, StringThere, LabelThere, ValueThere, RowThere}
 use Rattle.translate.specs.declared.record.Fields.{Fields}
-use Rattle.translate.proofs.Laid.{row_length}
+use Rattle.grammar.proofs.Rules.Fronts.{AllTwenty, all_twenty, all_lasts}
 use Rattle.translate.proofs.Rules.Paths.{reads_within, path_is, path_there}
 use Rattle.translate.proofs.Rules.Tokens.{decimal_within, string_within}
 
@@ -274,10 +273,6 @@ settles {s} {d} {x} {f} short T S N =
 
 -- ---- all of them
 
-abbrev AllTwenty : List Draft → Type 0
-AllTwenty [] = Unit
-AllTwenty (d ∷ ds) = Twenty d.row × AllTwenty ds
-
 abbrev AllKept : List ℕ → ℕ → List Draft → Type 0
 AllKept w i [] = Unit
 AllKept w i (d ∷ ds) = KeptAt w i d.row × AllKept w (suc i) ds
@@ -320,10 +315,6 @@ puts_frame : (b : List ℕ) (i : ℕ) (ds : List Draft) → AllTwenty ds → Fra
 unfolding puts
 puts_frame b i [] t = frame_same b
 puts_frame b i (d ∷ ds) t = frame_then (put_frame b i d.row t.0) (puts_frame (put_row b i d.row) (suc i) ds t.1)
-
-all_twenty : {s : List ℕ} {ds : List Draft} {xs : List Row} → AllTied s ds xs → AllShaped xs → AllTwenty ds
-all_twenty none S = tt
-all_twenty (also {d = d} T A) S = (record { long = row_length 0 d.row (ap length (T.last ∙ S.0.last) ∙ length_little 4 S.0.place) }, all_twenty A S.1)
 
 abbrev AllSame : List Row → List Row → Type 0
 AllSame [] [] = Unit
@@ -394,7 +385,7 @@ drafted s b ds is short A l few =
     let xs = all_rows is in
     let S = all_shaped is in
     let w = puts b 0 ds in
-    let R = all_settle w 0 short A S (puts_kept b 0 ds (all_twenty A S) l (omega arith)) in
+    let R = all_settle w 0 short A S (puts_kept b 0 ds (all_twenty A (all_lasts is)) l (omega arith)) in
     record {
       list = same_list (rows_at s w 0 (length ds)) xs R.0;
       texts = same_texts (rows_at s w 0 (length ds)) xs R.0;
@@ -402,16 +393,9 @@ drafted s b ds is short A l few =
     }
 
 pub drafts_frame : (s b : List ℕ) (ds : List Draft) (is : List Step) → AllTied s ds (all_rows is) → Frame b (puts b 0 ds)
-drafts_frame s b ds is A = puts_frame b 0 ds (all_twenty A (all_shaped is))
+drafts_frame s b ds is A = puts_frame b 0 ds (all_twenty A (all_lasts is))
 
 -- ---- how many, how much, and how long
-
-pub all_lasts : (is : List Step) → Lasts 4 (all_rows is)
-all_lasts is = go (all_rows is) (all_shaped is)
-  where
-    go : (xs : List Row) → AllShaped xs → Lasts 4 xs
-    go [] S = tt
-    go (x ∷ xs) S = (ap length S.0.last ∙ length_little 4 S.0.place, go xs S.1)
 
 pub same_count : {s : List ℕ} {ds : List Draft} {xs : List Row} → AllTied s ds xs → length ds ≡ length xs
 same_count none = refl

@@ -25,15 +25,15 @@ use Rattle.memory.specs.Memory.{stored}
 use Rattle.memory.proofs.Laws.{clear_wiped, length_zeros}
 use Rattle.grammar.specs.Drafts.{Draft, drafts, text_size}
 use Rattle.grammar.specs.Puts.{puts, Frame}
-use Rattle.grammar.specs.Reads.{Result, reads}
+use Rattle.grammar.specs.Reads.{reads, outcome_of}
 use Rattle.grammar.specs.Reads as grammar
 use Rattle.grammar.specs.Ties.{AllTied, Alike, both, neither, DraftsOf}
-use Rattle.grammar.specs.declared.answer.Read.{Read}
-use Rattle.grammar.specs.declared.answer.Read.TheVariants.{Done, Refused}
+use Rattle.grammar.specs.declared.answer.Drafts.{Drafts}
 use Rattle.grammar.proofs.Tied.{drafts_tied}
 use Rattle.translate.specs.Puts.{ListFits, written_list}
 use Rattle.translate.proofs.Laid.{laid_length}
-use Rattle.translate.proofs.Rules.Drafts.{Drafted, drafted, drafts_frame, all_lasts, same_count, same_size}
+use Rattle.grammar.proofs.Rules.Fronts.{all_lasts}
+use Rattle.translate.proofs.Rules.Drafts.{Drafted, drafted, drafts_frame, same_count, same_size}
 
 -- ---- what the readers answer
 
@@ -53,9 +53,9 @@ pub data CameRefused (s w w' : List ℕ) (n p : ℕ) : Type 0 where
   too_short : length w < 65536 → n ≡ 8 → p ≡ 0 → w' ≡ w → CameRefused s w w' n p
   not_read : 65536 ≤ length w → read s ≡ refused n p → w' ≡ wiped w → CameRefused s w w' n p
 
-abbrev pub CameIs : List ℕ → List ℕ → List ℕ → Read → Type 0
-CameIs s w w' (Done n t) = CameDone s w w' n t
-CameIs s w w' (Refused n p) = CameRefused s w w' n p
+abbrev pub CameIs : List ℕ → List ℕ → List ℕ → paper.Answer Drafts → Type 0
+CameIs s w w' (ok d) = CameDone s w w' d.steps d.text
+CameIs s w w' (refused n p) = CameRefused s w w' n p
 
 short_source : (s : List ℕ) → Gives (λ _. Unit {0}) (λ _. length s ≤ 32768) (drafts s)
 unfolding drafts
@@ -66,17 +66,17 @@ short_source s = gives_demand (leb (length s) 32768) 1 0 _ tt (λ e. any (leb-tr
     any p (refused n q) = refuses tt
 
 module _ (s w : List ℕ) where
-  came : {r : Read} {w' : List ℕ} → ◌≡◌ {A = Result} (record { answer = r; work = w' }) (reads s w) → CameIs s w w' r
-  unfolding reads grammar.answered when◌then◌else◌
+  pub came : {r : paper.Answer Drafts} {w' : List ℕ} → ◌≡◌ {A = grammar.Outcome} (record { answer = r; work = w' }) (reads s w) → CameIs s w w' r
+  unfolding reads outcome_of when◌then◌else◌
   came {r} {w'} e = by (ltb (length w) 65536) refl
     where
-      result : Bool → paper.Answer (List Draft) → Result
-      result c m = when c then record { answer = Refused 8 0; work = w } else grammar.answered m w
+      result : Bool → paper.Answer (List Draft) → grammar.Outcome
+      result c m = when c then record { answer = refused 8 0; work = w } else outcome_of m w
 
       tells : (m : paper.Answer (List Draft)) (n : paper.Answer Block) → drafts s ≡ m → read s ≡ n → 65536 ≤ length w → Alike (DraftsOf s) m n
-          → ◌≡◌ {A = Result} (record { answer = r; work = w' }) (grammar.answered m w) → CameIs s w w' r
+          → ◌≡◌ {A = grammar.Outcome} (record { answer = r; work = w' }) (outcome_of m w) → CameIs s w w' r
       tells m n d e₁ l (both {a = ds} {b = b} A) f =
-          subst (CameIs s w w') (sym (ap (λ (x : Result). x.answer) f)) (record {
+          subst (CameIs s w w') (sym (ap (λ (x : grammar.Outcome). x.answer) f)) (record {
             long = l;
             block = b;
             all = ds;
@@ -85,23 +85,17 @@ module _ (s w : List ℕ) where
             short = gives_ok (short_source s) d;
             count = refl;
             text = refl;
-            work = ap (λ (x : Result). x.work) f;
+            work = ap (λ (x : grammar.Outcome). x.work) f;
           })
-      tells m n d e₁ l neither f = subst (CameIs s w w') (sym (ap (λ (x : Result). x.answer) f)) (not_read l e₁ (ap (λ (x : Result). x.work) f))
+      tells m n d e₁ l neither f = subst (CameIs s w w') (sym (ap (λ (x : grammar.Outcome). x.answer) f)) (not_read l e₁ (ap (λ (x : grammar.Outcome). x.work) f))
 
       by : (c : Bool) → ltb (length w) 65536 ≡ c → CameIs s w w' r
       by true h =
-          let f : ◌≡◌ {A = Result} (record { answer = r; work = w' }) (record { answer = Refused 8 0; work = w }) = e ∙ ap (λ (c : Bool). result c (drafts s)) h in
-          subst (CameIs s w w') (sym (ap (λ (x : Result). x.answer) f)) (too_short (ltb-true (length w) 65536 h) refl refl (ap (λ (x : Result). x.work) f))
+          let f : ◌≡◌ {A = grammar.Outcome} (record { answer = r; work = w' }) (record { answer = refused 8 0; work = w }) = e ∙ ap (λ (c : Bool). result c (drafts s)) h in
+          subst (CameIs s w w') (sym (ap (λ (x : grammar.Outcome). x.answer) f)) (too_short (ltb-true (length w) 65536 h) refl refl (ap (λ (x : grammar.Outcome). x.work) f))
       by false h =
-          let f : ◌≡◌ {A = Result} (record { answer = r; work = w' }) (grammar.answered (drafts s) w) = e ∙ ap (λ (c : Bool). result c (drafts s)) h in
+          let f : ◌≡◌ {A = grammar.Outcome} (record { answer = r; work = w' }) (outcome_of (drafts s) w) = e ∙ ap (λ (c : Bool). result c (drafts s)) h in
           tells (drafts s) (read s) refl refl (ltb-false (length w) 65536 h) (drafts_tied s).alike f
-
-  pub came_done : {r : Read} {w' : List ℕ} {n t : ℕ} → ◌≡◌ {A = Result} (record { answer = r; work = w' }) (reads s w) → r ≡ Done n t → CameDone s w w' n t
-  came_done {r} {w'} e f = subst (CameIs s w w') f (came e)
-
-  pub came_refused : {r : Read} {w' : List ℕ} {n p : ℕ} → ◌≡◌ {A = Result} (record { answer = r; work = w' }) (reads s w) → r ≡ Refused n p → CameRefused s w w' n p
-  came_refused {r} {w'} e f = subst (CameIs s w w') f (came e)
 
 -- ---- what paper says
 

@@ -1,4 +1,5 @@
 -- A path's text is written name by name, as its names are read. Assumes nothing.
+use Rattle.std.specs.Prelude.{Some, None}
 use Prim.Native.Nat.{ℕ, zero, suc, ◌+◌, ◌-◌, ◌≤◌, ◌<◌}
 use native.Mathlib.Omega.{arith}
 use mathlib.Core.Path.{◌≡◌, refl, sym, ap, ap₂, subst, ◌∙◌}
@@ -22,7 +23,6 @@ use Rattle.grammar.specs.Ties.{Reads}
 use Rattle.translate.specs.Settled.{path_in, path_at, PathThere}
 use Rattle.translate.specs.Puts.{NameNext, NameSpan, MoreIs, Put, NameFits, PathFits}
 use Rattle.translate.specs.declared.token.Span.{Span}
-use Rattle.translate.specs.declared.token.More.TheVariants.{At, Last}
 use Rattle.translate.proofs.Rules.Stores.{stored_before, set_stored}
 
 abbrev Ok : {X : Type 0} → (X → Type 0) → Answer X → Type 0
@@ -227,7 +227,7 @@ module _ {s : List ℕ} {r : Path} {o₀ : List ℕ} {to : ℕ} {o : List ℕ} {
                 ∙ f;
           }
 
-      pub path_more : (g : ℕ) → MoreIs s sp.end (At g) → PathLoop s r o₀ to o' g (n + 1) e'
+      pub path_more : (g : ℕ) → MoreIs s sp.end (Some g) → PathLoop s r o₀ to o' g (n + 1) e'
       path_more g M = go L.most L.left refl (turn L.reads N) L.few
         where
           go : (k : ℕ) (q : Path) → L.left ≡ q → Turn s sp.end N.spelt k q → n + k ≤ 32 → PathLoop s r o₀ to o' g (n + 1) e'
@@ -250,7 +250,7 @@ module _ {s : List ℕ} {r : Path} {o₀ : List ℕ} {to : ℕ} {o : List ℕ} {
                 onward = W.onward;
               }
 
-      pub path_end : MoreIs s sp.end Last → Put o₀ (set o' to (n + 1)) to (path_text r) e'
+      pub path_end : MoreIs s sp.end None → Put o₀ (set o' to (n + 1)) to (path_text r) e'
       path_end M = go L.most L.left refl (turn L.reads N)
         where
           go : (k : ℕ) (q : Path) → L.left ≡ q → Turn s sp.end N.spelt k q → Put o₀ (set o' to (n + 1)) to (path_text r) e'

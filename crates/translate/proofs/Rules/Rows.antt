@@ -14,8 +14,9 @@ use Rattle.theorems.proofs.Decoded.Header.{Lasts}
 use Rattle.memory.specs.Memory.{stored}
 use Rattle.memory.proofs.Laws.{length_stored, then_stored, stored_none, stored_apart}
 use Rattle.grammar.specs.Ties.{has_path, is_path}
-use Rattle.translate.specs.Lay.{lay_row, lay, head}
-use Rattle.translate.specs.Settled.{path_at, said_at, is_long, label_at, value_at, figure_of, fields_at, field_bytes, settled, rows_at, with_texts}
+use Rattle.translate.specs.Lay.{lay_row, lay}
+use Rattle.translate.proofs.Laid.{head}
+use Rattle.translate.specs.Settled.{path_at, said_at, is_long, label_at, value_at, figure_of, fields_at, field_bytes, settled, rows_at}
 use Rattle.translate.specs.Puts.{Put, Room, PathFits, DecimalFits, StringFits, LabelFits, ValueFits, RowFits, Laid, ListFits, written_list}
 use Rattle.translate.specs.declared.record.Fields.{Fields}
 use Rattle.translate.proofs.Laid.{laid_length, laid}
@@ -50,29 +51,23 @@ no_long k f g = rw (ne_eqb k 4 f, ne_eqb k 5 g)
 pub no_text : (b : Bool) (k : ℕ) → b ≡ false → (k ≡ 4 → ⊥) → (k ≡ 5 → ⊥) → (b || is_long k) ≡ false
 no_text b k e f g = rw e (no_long k f g)
 
-pub has_1 : (i : ℕ) → i ≡ 1 → true ≡ has_path i
-unfolding has_path
-has_1 i e = rw e
+-- ---- steps and kinds by their numbers
 
-pub has_2 : (i : ℕ) → i ≡ 2 → true ≡ has_path i
-unfolding has_path
-has_2 i e = rw e
-
-pub has_6 : (i : ℕ) → i ≡ 6 → true ≡ has_path i
-unfolding has_path
-has_6 i e = rw e
-
-pub has_8 : (i : ℕ) → (i ≡ 1 → ⊥) → (i ≡ 2 → ⊥) → (i ≡ 6 → ⊥) → eqb i 8 ≡ has_path i
-unfolding has_path
-has_8 i f g h = rw (ne_eqb i 1 f, ne_eqb i 2 g, ne_eqb i 6 h)
-
-pub is_8 : (i k : ℕ) → i ≡ 8 → true ≡ is_path i k
+pub is_link : (i k n : ℕ) → n ≡ 8 → i ≡ n → eqb i n ≡ is_path i k
 unfolding is_path
-is_8 i k e = rw e
+is_link i k n z e = let f : i ≡ 8 = e ∙ z in rw (z, f)
 
-pub is_data : (i k : ℕ) → (i ≡ 8 → ⊥) → eqb k 6 ≡ is_path i k
+pub is_reference : (i k m n : ℕ) → m ≡ 8 → (i ≡ m → ⊥) → n ≡ 6 → eqb k n ≡ is_path i k
 unfolding is_path
-is_data i k f = rw (ne_eqb i 8 f)
+is_reference i k m n z f e = rw (e, ne_eqb i 8 (λ (q : i ≡ 8). f (q ∙ sym z)))
+
+pub is_decimal : (k n : ℕ) → n ≡ 4 → k ≡ n → eqb k n ≡ is_long k
+unfolding is_long
+is_decimal k n z e = let f : k ≡ 4 = e ∙ z in rw (z, f)
+
+pub is_string : (k m n : ℕ) → m ≡ 4 → (k ≡ m → ⊥) → n ≡ 5 → eqb k n ≡ is_long k
+unfolding is_long
+is_string k m n z f e = rw (e, ne_eqb k 4 (λ (q : k ≡ 4). f (q ∙ sym z)))
 
 -- ---- labels and values
 
@@ -168,24 +163,6 @@ module _ (o : List ℕ) (at : ℕ) (f : Fields) (l : at + 20 ≤ length o) {o₁
       let t₆ = behind o at (at + 16) _ (little 4 f.place) t₅ e₆ (simp length-append (omega arith)) (omega arith) in
       t₆ ∙ ap (stored o at) (simp append_assoc)
 
-module _ (o : List ℕ) (n t : ℕ) (l : 24 ≤ length o) {o₁ o₂ o₃ o₄ o₅ o₆ : List ℕ} where
-  pub head_put : o₁ ≡ stored o 0 (little 4 1) → o₂ ≡ stored o₁ 4 (little 4 (24 + 20 * n + t)) → o₃ ≡ stored o₂ 8 (little 4 n) → o₄ ≡ stored o₃ 12 (little 4 24)
-      → o₅ ≡ stored o₄ 16 (little 4 t) → o₆ ≡ stored o₅ 20 (little 4 (24 + 20 * n)) → o₆ ≡ stored o 0 (head n t)
-  unfolding head
-  head_put e₁ e₂ e₃ e₄ e₅ e₆ =
-      let z₁ = length_little 4 1 in
-      let z₂ = length_little 4 (24 + 20 * n + t) in
-      let z₃ = length_little 4 n in
-      let z₄ = length_little 4 24 in
-      let z₅ = length_little 4 t in
-      let z₆ = length_little 4 (24 + 20 * n) in
-      let t₂ = behind o 0 4 (little 4 1) (little 4 (24 + 20 * n + t)) e₁ e₂ (omega arith) (omega arith) in
-      let t₃ = behind o 0 8 _ (little 4 n) t₂ e₃ (simp length-append (omega arith)) (omega arith) in
-      let t₄ = behind o 0 12 _ (little 4 24) t₃ e₄ (simp length-append (omega arith)) (omega arith) in
-      let t₅ = behind o 0 16 _ (little 4 t) t₄ e₅ (simp length-append (omega arith)) (omega arith) in
-      let t₆ = behind o 0 20 _ (little 4 (24 + 20 * n)) t₅ e₆ (simp length-append (omega arith)) (omega arith) in
-      t₆ ∙ ap (stored o 0) (simp append_assoc)
-
 -- ---- a row
 
 label_figured : (s : List ℕ) (i p t : ℕ) → figure_of (has_path i) 0 t ≡ figure t (label_at s i p)
@@ -204,6 +181,10 @@ value_figured s i k v t = go (is_path i k) (is_long k)
     go true c = refl
     go false true = refl
     go false false = refl
+
+-- the same but for the places of texts
+abbrev with_texts : Fields → ℕ → ℕ → Fields
+with_texts f p v = record { step = f.step; kind = f.kind; path = p; span = f.span; value = v; place = f.place }
 
 row_size : (s : List ℕ) (f : Fields) (t : ℕ) → length (row_bytes t (settled s f)) ≡ 20
 unfolding row_bytes settled

@@ -1,15 +1,15 @@
 -- Tokens that are found again. Assumes nothing.
+use Rattle.std.specs.Prelude.{Result, Ok, Err, Some, None, IsOk}
+use Rattle.std.specs.Result.{result_ok}
 use Prim.Native.Nat.{ℕ, zero, suc, ◌+◌, ◌-◌, ◌≤◌, ◌<◌}
 use native.Mathlib.Omega.{arith}
-use mathlib.Core.Path.{◌≡◌, refl, sym, ap, subst, ◌∙◌}
+use mathlib.Core.Path.{◌≡◌, refl, sym, ap, ◌∙◌}
 use mathlib.Core.Bool.{Bool, true, false, true≢false, false≢true, ◌||◌}
 use mathlib.Core.List.{List, [], ◌∷◌, ◌++◌}
 use mathlib.Core.Logic.{◌⊎◌, inl, inr}
 use mathlib.Core.Option.{some}
-use lib.ListN.{length, take, drop, length-append, length-drop, drop_of_length-le}
-use lib.Seq.{take_all}
-use lib.Dec.{eqb}
-use borrow.Author.Tests.{eqb-true, eqb-false, eq-eqb, ne_eqb, le-leb}
+use lib.ListN.{length, take, drop, length-append, drop_of_length-le}
+use borrow.Author.Tests.{ne_eqb, le-leb}
 use Rattle.paper.specs.Bytes.{at, is, between, when◌then◌else◌}
 use Rattle.paper.specs.Answer.{Answer, ok, refused, ◌>>=◌}
 use Rattle.paper.specs.Syntax.{Basic, decimal, string}
@@ -21,28 +21,20 @@ use Rattle.theorems.proofs.Scanned.Classes.{outside_among}
 use Rattle.theorems.proofs.Laws.Rescan.{Shape, a_name, scan_shape, decimal_shape, at_end, a_decimal, an_integer, a_string, a_mark, a_fault}
 use Rattle.memory.specs.Memory.{stored}
 use Rattle.memory.proofs.Laws.{stored_in, then_stored, fit}
+use Rattle.refusal.specs.Refused.{answered, number_of}
+use Rattle.refusal.specs.declared.Refusal.{Refusal}
 use Rattle.tokens.specs.declared.Kind.{Kind}
 use Rattle.tokens.specs.declared.Kind.TheVariants.{Name, Word, Integer, Decimal, Text, Mark, End}
-use Rattle.tokens.specs.declared.Token.TheVariants.{Found, Refused}
 use Rattle.tokens.specs.declared.Token as code
 use Rattle.tokens.specs.Shown.{shown}
 use Rattle.spelling.specs.Spelt.{part_of, string_of, text_of, Decoded, decoded}
 use Rattle.spelling.specs.Text.{put}
-use Rattle.tokens.proofs.Told.{Told, told, Stands, part_of_rest, part_length, word_tests}
+use Rattle.tokens.proofs.Told.{ToldKind, ToldRefusal, told_at, bounds, Stands, part_of_rest, part_length, word_tests}
+use Rattle.spelling.proofs.At.{rest}
 use Rattle.grammar.specs.Places.{here}
 use Rattle.translate.specs.Settled.{said_at, DecimalThere, StringThere}
-use Rattle.translate.specs.Puts.{NameNext, NameSpan, is_colon, MoreIs, Room, TextFits, DecimalFits, StringFits}
-use Rattle.translate.specs.declared.token.Span.{Span}
-use Rattle.translate.specs.declared.token.More.TheVariants.{At, Last}
+use Rattle.translate.specs.Puts.{NameNext, NameSpan, MoreIs, Room, TextFits, DecimalFits, StringFits}
 use Rattle.translate.proofs.Rules.Stores.{stored_before}
-
--- a part that goes to the end
-pub rest_of : (s : List ℕ) (p : ℕ) → take (length s - p) (drop p s) ≡ drop p s
-rest_of s p = take_all (length s - p) (drop p s) (omega (arith, length-drop p s))
-
--- what `next_token` answers of it
-pub told_rest : (s : List ℕ) (p : ℕ) → p ≤ length s → (r : code.Token) → r ≡ shown (next (record { place = 0; rest = take (length s - p) (drop p s) })) → Told s p r
-told_rest s p h r e = told s p h r (rw (rest_of s p) at e)
 
 same_ok : {X : Type 0} {m : Answer X} {a b : X} → m ≡ ok a → m ≡ ok b → a ≡ b
 same_ok e f = cc
@@ -53,42 +45,40 @@ same_token e f = ap (λ (x : Token × Here × Here). x.0) (same_ok e f)
 no_refusal : {A : Type 0} {m : Answer A} {a : A} {n p : ℕ} → m ≡ ok a → m ≡ refused n p → ⊥
 no_refusal e f = let z : ◌≡◌ {A = ℕ} 0 1 = cc in omega arith
 
--- ---- some token stands there
-
-record Some (s : List ℕ) (p a e : ℕ) : Type 0 where
-  it : Token
-  stands : Stands s p a e it
-
-some_token : (s : List ℕ) (p a e : ℕ) (k : Kind) → Told s p (Found k a e) → Some s p a e
-some_token s p a e Name T = record { it = _; stands = T.stands }
-some_token s p a e (Word i) T = record { it = _; stands = T.stands }
-some_token s p a e (Integer v) T = record { it = _; stands = T.stands }
-some_token s p a e Decimal T = record { it = _; stands = T.stands }
-some_token s p a e (Text n) T = record { it = _; stands = T.stands }
-some_token s p a e (Mark b) T = record { it = _; stands = T.stands }
-some_token s p a e End T = record { it = _; stands = T.stands }
+-- ---- what is answered
 
 -- what `next_token` answers of the source from p on
-abbrev pub Asked : List ℕ → ℕ → code.Token → Type 0
-Asked s p r = r ≡ shown (next (record { place = 0; rest = take (length s - p) (drop p s) }))
+abbrev pub Asked : List ℕ → ℕ → Result code.Token Refusal → Type 0
+Asked s p r = answered r ≡ shown (next (record { place = 0; rest = take (length s - p) (drop p s) }))
 
-module _ (s : List ℕ) (p : ℕ) (h : p ≤ length s) {r : code.Token} (q : Asked s p r) where
-  found_token : {k : Kind} {a e : ℕ} → r ≡ Found k a e → Told s p (Found k a e)
-  found_token f = subst (Told s p) f (told_rest s p h r q)
+-- where none is refused, there is one
+answered_ok : (r : Result code.Token Refusal) → ((e : Refusal) → r ≡ Err e → ⊥) → IsOk r
+answered_ok (Ok t) n = refl
+answered_ok (Err e) n = absurd (n e refl)
 
-  pub found_ahead : {k : Kind} {a e : ℕ} → r ≡ Found k a e → a ≤ e
-  found_ahead {k} {a} {e} f = (some_token s p a e k (found_token f)).stands.ahead
+-- what `ok` leaves of an answer
+pub ok_some : (r : Result code.Token Refusal) (t : code.Token) → result_ok r ≡ Some t → r ≡ Ok t
+ok_some (Ok u) t e = cc
+ok_some (Err x) t e = cc
 
-  pub found_within : {k : Kind} {a e : ℕ} → r ≡ Found k a e → p + e ≤ length s
-  found_within {k} {a} {e} f = (some_token s p a e k (found_token f)).stands.within
+ok_none : (r : Result code.Token Refusal) {P : Type 0} → result_ok r ≡ None → ((e : Refusal) → r ≡ Err e → P) → P
+ok_none (Ok u) e n = let z : ◌≡◌ {A = ℕ} 0 1 = cc in absurd (omega arith)
+ok_none (Err x) e n = n x refl
 
-  pub refused_token : {n a : ℕ} → r ≡ Refused n a → Told s p (Refused n a)
-  refused_token f = subst (Told s p) f (told_rest s p h r q)
+module _ (s : List ℕ) (p : ℕ) (h : p ≤ length s) {r : Result code.Token Refusal} (q : Asked s p r) where
+  found_token : (t : code.Token) → r ≡ Ok t → ToldKind s p t.at t.end t.kind
+  found_token t f = told_at s p h (ok t) (ap answered (sym f) ∙ q)
+
+  pub found_bounds : (t : code.Token) → r ≡ Ok t → (t.at ≤ t.end) × (p + t.end ≤ length s)
+  found_bounds t f = let b = bounds s p h t (ap answered (sym f) ∙ q) in (b.0, b.1)
+
+  refused_token : (e : Refusal) → r ≡ Err e → ToldRefusal s p (number_of e.reason) e.place
+  refused_token e f = told_at s p h (refused (number_of e.reason) e.place) (ap answered (sym f) ∙ q)
 
 -- ---- names
 
 module _ (s : List ℕ) (p a e : ℕ) where
-  name_found : (k : Kind) → Told s p (Found k a e) → NameNext s p → NameSpan s p (record { at = p + a; end = p + e })
+  name_found : (k : Kind) → ToldKind s p a e k → NameNext s p → NameSpan s p (record { at = p + a; end = p + e })
   name_found Name T N =
       let z : p + e - (p + a) ≡ e - a = omega arith in
       let l = part_length s p a e T.stands.ahead T.stands.within in
@@ -102,57 +92,55 @@ module _ (s : List ℕ) (p a e : ℕ) where
       }
   name_found (Word i) T N =
       let e : name _ ≡ name _ = same_token T.stands.is N.is in
-      absurd (false≢true (sym (word_tests i T.place).0 ∙ ap is_name e ∙ N.free))
+      absurd (false≢true (sym (word_tests i).0 ∙ ap is_name e ∙ N.free))
   name_found (Integer v) T N = let e : literal _ ≡ name _ = same_token T.stands.is N.is in let z : ◌≡◌ {A = ℕ} 0 1 = cc in absurd (omega arith)
   name_found Decimal T N = let e : literal _ ≡ name _ = same_token T.stands.is N.is in let z : ◌≡◌ {A = ℕ} 0 1 = cc in absurd (omega arith)
   name_found (Text n) T N = let e : literal _ ≡ name _ = same_token T.stands.is N.is in let z : ◌≡◌ {A = ℕ} 0 1 = cc in absurd (omega arith)
   name_found (Mark b) T N = let e : mark _ ≡ name _ = same_token T.stands.is N.is in let z : ◌≡◌ {A = ℕ} 0 1 = cc in absurd (omega arith)
   name_found End T N = let e : end ≡ name _ = same_token T.stands.is N.is in let z : ◌≡◌ {A = ℕ} 0 1 = cc in absurd (omega arith)
 
-pub name_seen : (s : List ℕ) (p : ℕ) → NameNext s p → {r : code.Token} → Asked s p r → {k : Kind} {a e : ℕ} → r ≡ Found k a e → NameSpan s p (record { at = p + a; end = p + e })
-name_seen s p N q {k} {a} {e} f = name_found s p a e k (found_token s p N.within q f) N
+pub name_seen : (s : List ℕ) (p : ℕ) → NameNext s p → {r : Result code.Token Refusal} → Asked s p r → (t : code.Token) → r ≡ Ok t → NameSpan s p (record { at = p + t.at; end = p + t.end })
+name_seen s p N q t f = name_found s p t.at t.end t.kind (found_token s p N.within q t f) N
 
-pub name_refused : (s : List ℕ) (p : ℕ) → NameNext s p → {r : code.Token} → Asked s p r → {n a : ℕ} → r ≡ Refused n a → {x : Span} → NameSpan s p x
-name_refused s p N q f = absurd (no_refusal N.is (refused_token s p N.within q f).is)
+pub name_there : (s : List ℕ) (p : ℕ) → NameNext s p → (r : Result code.Token Refusal) → Asked s p r → IsOk r
+name_there s p N r q = answered_ok r (λ e f. no_refusal N.is (refused_token s p N.within q e f).is)
 
 -- ---- colons
 
-eqb_sym : (m n : ℕ) → eqb m n ≡ eqb n m
-eqb_sym m n = go (eqb n m) refl
-  where
-    go : (c : Bool) → eqb n m ≡ c → eqb m n ≡ c
-    go true e = eq-eqb m n (sym (eqb-true n m e))
-    go false e = ne_eqb m n (λ f. eqb-false n m e (sym f))
-
 module _ (s : List ℕ) (p a e : ℕ) where
-  marked : (k : Kind) → Told s p (Found k a e) → (y : Token × Here × Here) → next (here s p) ≡ ok y → is_mark ":" y.0 ≡ is_colon k
-  unfolding is_mark
-  marked Name T y f = ap (λ (x : Token × Here × Here). is_mark ":" x.0) (same_ok f T.stands.is)
-  marked (Word i) T y f = ap (λ (x : Token × Here × Here). is_mark ":" x.0) (same_ok f T.stands.is)
-  marked (Integer v) T y f = ap (λ (x : Token × Here × Here). is_mark ":" x.0) (same_ok f T.stands.is)
-  marked Decimal T y f = ap (λ (x : Token × Here × Here). is_mark ":" x.0) (same_ok f T.stands.is)
-  marked (Text n) T y f = ap (λ (x : Token × Here × Here). is_mark ":" x.0) (same_ok f T.stands.is)
-  marked (Mark b) T y f = ap (λ (x : Token × Here × Here). is_mark ":" x.0) (same_ok f T.stands.is) ∙ eqb_sym 58 b
-  marked End T y f = ap (λ (x : Token × Here × Here). is_mark ":" x.0) (same_ok f T.stands.is)
+  -- the next token is this one
+  the_next : {t : Token} → Stands s p a e t → (y : Token × Here × Here) → next (here s p) ≡ ok y → is_mark ":" y.0 ≡ is_mark ":" t
+  the_next S y f = ap (λ (x : Token × Here × Here). is_mark ":" x.0) (same_ok f S.is)
 
-module _ (s : List ℕ) (p : ℕ) (h : p ≤ length s) {r : code.Token} (q : Asked s p r) where
-  pub colon_found : {k : Kind} {a e : ℕ} → r ≡ Found k a e → is_colon k ≡ true → MoreIs s p (At (p + e))
-  colon_found {k} {a} {e} f c =
-      let T = found_token s p h q f in
-      let S = (some_token s p a e k T).stands in
+  unmarked : (k : Kind) → ToldKind s p a e k → (k ≡ Mark 58 → ⊥) → (y : Token × Here × Here) → next (here s p) ≡ ok y → is_mark ":" y.0 ≡ false
+  unfolding is_mark
+  unmarked Name T ne y f = the_next T.stands y f
+  unmarked (Word w) T ne y f = the_next T.stands y f
+  unmarked (Integer v) T ne y f = the_next T.stands y f
+  unmarked Decimal T ne y f = the_next T.stands y f
+  unmarked (Text n) T ne y f = the_next T.stands y f
+  unmarked (Mark b) T ne y f = the_next T.stands y f ∙ ne_eqb 58 b (λ z. ne (ap Mark (sym z)))
+  unmarked End T ne y f = the_next T.stands y f
+
+module _ (s : List ℕ) (p : ℕ) (h : p ≤ length s) {r : Result code.Token Refusal} (q : Asked s p r) where
+  pub colon_found : (t : code.Token) → r ≡ Ok t → t.kind ≡ Mark 58 → MoreIs s p (Some (p + t.end))
+  unfolding is_mark
+  colon_found t f c =
+      let T = found_token s p h q t f in
+      let S = rw c at T in
       record {
         is = λ y g. record {
-          is = marked s p a e k T y g ∙ c;
-          on = ap (λ (x : Token × Here × Here). x.2) (same_ok g S.is);
-          within = S.within;
+          is = the_next s p t.at t.end S.stands y g;
+          on = ap (λ (x : Token × Here × Here). x.2) (same_ok g S.stands.is);
+          within = S.stands.within;
         };
       }
 
-  pub colon_other : {k : Kind} {a e : ℕ} → r ≡ Found k a e → is_colon k ≡ false → MoreIs s p Last
-  colon_other {k} {a} {e} f c = record { is = λ y g. marked s p a e k (found_token s p h q f) y g ∙ c }
+  pub colon_other : (t : code.Token) → r ≡ Ok t → (t.kind ≡ Mark 58 → ⊥) → MoreIs s p None
+  colon_other t f ne = record { is = λ y g. unmarked s p t.at t.end t.kind (found_token s p h q t f) ne y g }
 
-  pub colon_refused : {n a : ℕ} → r ≡ Refused n a → MoreIs s p Last
-  colon_refused f = record { is = λ y g. absurd (no_refusal g (refused_token s p h q f).is) }
+pub colon_refused : (s : List ℕ) (p : ℕ) → p ≤ length s → (r : Result code.Token Refusal) → Asked s p r → result_ok r ≡ None → MoreIs s p None
+colon_refused s p h r q n = ok_none r n (λ e f. record { is = λ y g. absurd (no_refusal g (refused_token s p h q e f).is) })
 
 -- ---- decimals
 
@@ -185,11 +173,11 @@ unfolding next ◌>>=◌ found
 decimal_next s p D = rw (skip_none (length (drop p s)) (here s p) (decimal_front (drop p s) (said_at s p) D.size D.scanned), D.scanned)
 
 module _ (s : List ℕ) (p a e : ℕ) where
-  decimal_found : (k : Kind) → Told s p (Found k a e) → DecimalThere s p → part_of a e (take (length s - p) (drop p s)) ≡ said_at s p
+  decimal_found : (k : Kind) → ToldKind s p a e k → DecimalThere s p → part_of a e (take (length s - p) (drop p s)) ≡ said_at s p
   decimal_found Decimal T D =
       let q : literal (decimal (take (e - a) (drop (p + a) s))) ≡ literal (decimal (said_at s p)) = same_token T.stands.is (decimal_next s p D) in
       let z : take (e - a) (drop (p + a) s) ≡ said_at s p = cc in
-      ap (part_of a e) (rest_of s p) ∙ part_of_rest s p a e T.stands.ahead T.stands.within ∙ z
+      ap (part_of a e) (rest s p) ∙ part_of_rest s p a e T.stands.ahead T.stands.within ∙ z
   decimal_found Name T D = let q : name _ ≡ literal _ = same_token T.stands.is (decimal_next s p D) in let z : ◌≡◌ {A = ℕ} 0 1 = cc in absurd (omega arith)
   decimal_found (Word i) T D = let q : name _ ≡ literal _ = same_token T.stands.is (decimal_next s p D) in let z : ◌≡◌ {A = ℕ} 0 1 = cc in absurd (omega arith)
   decimal_found (Integer v) T D = let q : literal _ ≡ literal (decimal _) = same_token T.stands.is (decimal_next s p D) in let z : ◌≡◌ {A = ℕ} 0 1 = cc in absurd (omega arith)
@@ -218,11 +206,12 @@ decimal_within {s} {p} D = literal_within s p _ D.size D.scanned
 pub string_within : {s : List ℕ} {p : ℕ} → StringThere s p → p < length s
 string_within {s} {p} D = literal_within s p _ D.size D.scanned
 
-pub decimal_seen : (s : List ℕ) (p : ℕ) → DecimalThere s p → {r : code.Token} → Asked s p r → {k : Kind} {a e : ℕ} → r ≡ Found k a e → part_of a e (take (length s - p) (drop p s)) ≡ said_at s p
-decimal_seen s p D q {k} {a} {e} f = decimal_found s p a e k (found_token s p (omega (arith, decimal_within D)) q f) D
+pub decimal_seen : (s : List ℕ) (p : ℕ) → DecimalThere s p → {r : Result code.Token Refusal} → Asked s p r → (t : code.Token) → r ≡ Ok t
+    → part_of t.at t.end (take (length s - p) (drop p s)) ≡ said_at s p
+decimal_seen s p D q t f = decimal_found s p t.at t.end t.kind (found_token s p (omega (arith, decimal_within D)) q t f) D
 
-pub decimal_refused : (s : List ℕ) (p : ℕ) → DecimalThere s p → {r : code.Token} → Asked s p r → {n a : ℕ} → r ≡ Refused n a → ⊥
-decimal_refused s p D q f = no_refusal (decimal_next s p D) (refused_token s p (omega (arith, decimal_within D)) q f).is
+pub decimal_there : (s : List ℕ) (p : ℕ) → DecimalThere s p → (r : Result code.Token Refusal) → Asked s p r → IsOk r
+decimal_there s p D r q = answered_ok r (λ e f. no_refusal (decimal_next s p D) (refused_token s p (omega (arith, decimal_within D)) q e f).is)
 
 length_take_most : (m : ℕ) (l : List ℕ) → length (take m l) ≤ m
 length_take_most zero l = omega arith
@@ -295,5 +284,5 @@ string_decoded {s} {p} {o} {to} F {o'} {n} e =
     let t = said_at s p in
     let l : to + 2 + length t ≤ length o = omega (arith, F.room.room, long_length t) in
     let f : ◌≡◌ {A = Decoded} (record { count = n; out = o' }) (record { count = length t; out = take (to + 2) o ++ t ++ drop (to + 2 + length t) o }) =
-    rw (le-leb (to + 2 + length t) (length o) l) at (rw (string_text s p F.there) at (rw (rest_of s p) at e)) in
+    rw (le-leb (to + 2 + length t) (length o) l) at (rw (string_text s p F.there) at (rw (rest s p) at e)) in
     record { count = ap (λ (x : Decoded). x.count) f; out = ap (λ (x : Decoded). x.out) f ∙ sym (stored_in o (to + 2) t l) }

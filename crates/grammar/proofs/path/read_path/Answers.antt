@@ -1,55 +1,52 @@
 -- `read_path`: names are read while a colon follows. Assumes nothing.
 use native.Mathlib.Omega.{arith}
-use Rattle.grammar.specs.declared.path.Path.TheVariants.{Whole, Broken}
-use Rattle.grammar.proofs.Rules.Paths.{too_many, last_name, fault_after, more_names, whole_path, one_less, one_more}
+use Rattle.std.specs.Prelude.{Ok, Err}
+use Rattle.grammar.proofs.Rules.Refusals.{handed_on}
+use Rattle.grammar.proofs.Rules.Paths.{no_such_name, last_name, fault_after, more_names, whole_path, one_less, one_too_many}
 use Rattle.grammar.proofs.path.read_path.Goals as goal
 
-pub loop-place-init : goal.loop-place-init
-loop-place-init c = record { within = c.requires; few = omega arith; onward = λ r R. R }
+pub loop-init : goal.loop-init
+loop-init c = record { within = c.requires; few = omega arith; onward = λ r R. R }
 
-pub name-requires : goal.name-requires
-name-requires c = c.loop-place.invariant.within
+pub expect-requires : goal.expect-requires
+expect-requires c = c.loop.invariant.within
 
-pub returns-then-left-eq0 : goal.returns-then-left-eq0
-returns-then-left-eq0 c = whole_path _ _ (Broken _ _) (c.loop-place.invariant.onward (Broken _ _) (one_less _ _ _ 0 (Broken _ _) c.if-left-eq0.true (too_many (rw c.in-At.is at c.name.ensures) 0)))
+pub returns-in_err-spot : goal.returns-in_err-spot
+returns-in_err-spot c =
+    rw (handed_on c.from_residual.result c.from_residual.ensures.1)
+    (whole_path _ _ (Err _) (c.loop.invariant.onward (Err _) (no_such_name c.in_err-spot.ensures _)))
 
-pub overflow_sub-left : goal.overflow_sub-left
-overflow_sub-left c = omega arith
+pub overflow_add-size-in-loop : goal.overflow_add-size-in-loop
+overflow_add-size-in-loop c = omega (arith, c.in_ok-spot.ensures.shown, c.loop.invariant.few)
 
-pub overflow_sub-size : goal.overflow_sub-size
-overflow_sub-size c = let N = rw c.in-At.is at c.name.ensures in omega (arith, N.shown)
+pub returns-in_err-colon : goal.returns-in_err-colon
+returns-in_err-colon c =
+    rw (handed_on c.from_residual-in_err-colon.result c.from_residual-in_err-colon.ensures.1)
+    (whole_path _ _ (Err _) (c.loop.invariant.onward (Err _)
+    (one_less c.loop.counter c.loop-test.true _ _ c.loop.size (Err _) (fault_after c.in_ok-spot.ensures c.loop.size _ _ c.in_err-colon.ensures))))
 
-pub overflow_add-size : goal.overflow_add-size
-overflow_add-size c = let N = rw c.in-At.is at c.name.ensures in omega (arith, N.shown)
+pub returns-in_default : goal.returns-in_default
+returns-in_default c =
+    whole_path _ _ (Ok _) (c.loop.invariant.onward (Ok _)
+    (one_less c.loop.counter c.loop-test.true _ _ _ (Ok _) (last_name c.in_ok-spot.ensures _ _ (rw c.in_default.is at c.in_ok-colon.ensures))))
 
-pub overflow_add-size-in-At : goal.overflow_add-size-in-At
-overflow_add-size-in-At c = let N = rw c.in-At.is at c.name.ensures in omega (arith, N.shown, c.loop-place.invariant.few)
-
-pub follows-requires : goal.follows-requires
-follows-requires c = let N = rw c.in-At.is at c.name.ensures in N.shown.within
-
-pub loop-place-smaller : goal.loop-place-smaller
-loop-place-smaller c = omega arith
-
-pub loop-place-preserved : goal.loop-place-preserved
-loop-place-preserved c =
-    let N = rw c.in-At.is at c.name.ensures in
-    let M = rw c.in-Yes.is at c.follows.ensures in
+pub loop-preserved : goal.loop-preserved
+loop-preserved c =
+    let N = c.in_ok-spot.ensures in
+    let M = rw c.in-Some.is at c.in_ok-colon.ensures in
     record {
       within = M.within;
-      few = omega (arith, N.shown, M, c.loop-place.invariant.few);
-      onward = λ r R. c.loop-place.invariant.onward r (one_more _ _ _ _ r c.if-left-eq0.false (more_names N _ _ _ M _ r R));
+      few = omega (arith, N.shown, M, c.loop.invariant.few);
+      onward = λ r R. c.loop.invariant.onward r (one_less c.loop.counter c.loop-test.true _ _ _ r (more_names N _ _ _ M _ r R));
     }
 
-pub returns-in-No : goal.returns-in-No
-returns-in-No c =
-    let N = rw c.in-At.is at c.name.ensures in
-    whole_path _ _ (Whole _ _) (c.loop-place.invariant.onward (Whole _ _) (one_more _ _ _ _ (Whole _ _) c.if-left-eq0.false (last_name N _ _ (rw c.in-No.is at c.follows.ensures))))
+pub expect-requires-2 : goal.expect-requires-2
+expect-requires-2 c = c.loop.invariant.within
 
-pub returns-in-Fault : goal.returns-in-Fault
-returns-in-Fault c =
-    let N = rw c.in-At.is at c.name.ensures in
-    whole_path _ _ (Broken _ _) (c.loop-place.invariant.onward (Broken _ _) (one_more _ _ _ 0 (Broken _ _) c.if-left-eq0.false (fault_after N 0 _ _ _ (rw c.in-Fault.is at c.follows.ensures))))
+pub returns-in_err-spot-2 : goal.returns-in_err-spot-2
+returns-in_err-spot-2 c =
+    rw (handed_on c.from_residual-in_err-spot-2.result c.from_residual-in_err-spot-2.ensures.1)
+    (whole_path _ _ (Err _) (c.loop.invariant.onward (Err _) (no_such_name c.in_err-spot-2.ensures _)))
 
-pub returns-in-Missing : goal.returns-in-Missing
-returns-in-Missing c = whole_path _ _ (Broken _ _) (c.loop-place.invariant.onward (Broken _ _) ((rw c.in-Missing.is at c.name.ensures) _))
+pub returns : goal.returns
+returns c = one_too_many c.loop.invariant (omega arith) c.in_ok-spot-2.ensures

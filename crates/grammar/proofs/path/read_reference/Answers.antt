@@ -1,29 +1,30 @@
 -- `read_reference`: by the sorts of token. Assumes nothing.
-use Rattle.grammar.proofs.Rules.Marks.{stands, no_name, reserved_unnamed, written_unnamed, mark_unnamed, end_unnamed}
+use mathlib.Core.Path.{◌≡◌}
+use Rattle.std.proofs.Common.{rules}
+use Rattle.paper.specs.Tokens.{name}
 use Rattle.grammar.specs.Paths.{no_token, no_path}
+use Rattle.tokens.specs.declared.Kind.TheVariants.{Name}
+use Rattle.grammar.proofs.Rules.Refusals.{handed_on}
+use Rattle.grammar.proofs.Rules.Marks.{stands, unnamed, no_name}
 use Rattle.grammar.proofs.path.read_reference.Goals as goal
 
-pub returns-in-Whole : goal.returns-in-Whole
-returns-in-Whole c =
-    let N = rw c.in-Name.is at c.token_at.ensures in
-    record { token = _; stood = stands N.shown; named = N.free; whole = rw c.in-Whole.is at c.read_path.ensures }
+pub returns-in_err-token : goal.returns-in_err-token
+returns-in_err-token c = rw (handed_on c.from_residual.result c.from_residual.ensures.1) (no_token c.in_err-token.ensures)
 
-pub returns-in-Broken : goal.returns-in-Broken
-returns-in-Broken c =
-    let N = rw c.in-Name.is at c.token_at.ensures in
-    no_path (stands N.shown) N.free (rw c.in-Broken.is at c.read_path.ensures)
+pub returns-then-ne : goal.returns-then-ne
+returns-then-ne c =
+    let t = c.in_ok-token.token in
+    let other : t.kind ≡ Name → ⊥ = search rules in
+    no_name (unnamed _ _ _ t.end t.kind c.in_ok-token.ensures other)
 
-pub returns-in-Reserved : goal.returns-in-Reserved
-returns-in-Reserved c = no_name _ _ _ (reserved_unnamed _ _ _ _ _ _ c.in-Reserved.is c.token_at.ensures)
+pub returns-in_err-path : goal.returns-in_err-path
+returns-in_err-path c =
+    let named : c.in_ok-token.token.kind ≡ Name = search rules in
+    let N = rw named at c.in_ok-token.ensures in
+    rw (handed_on c.from_residual-in_err-path.result c.from_residual-in_err-path.ensures.1) (no_path {t = name N.spelt} (stands {t = name N.spelt} N.shown) N.free c.in_err-path.ensures)
 
-pub returns-in-Written : goal.returns-in-Written
-returns-in-Written c = no_name _ _ _ (written_unnamed _ _ _ _ _ _ c.in-Written.is c.token_at.ensures)
-
-pub returns-in-Mark : goal.returns-in-Mark
-returns-in-Mark c = no_name _ _ _ (mark_unnamed _ _ _ (rw c.in-Mark.is at c.token_at.ensures))
-
-pub returns-in-End : goal.returns-in-End
-returns-in-End c = no_name _ _ _ (end_unnamed _ _ _ (rw c.in-End.is at c.token_at.ensures))
-
-pub returns-in-Fault : goal.returns-in-Fault
-returns-in-Fault c = no_token (rw c.in-Fault.is at c.token_at.ensures)
+pub returns : goal.returns
+returns c =
+    let named : c.in_ok-token.token.kind ≡ Name = search rules in
+    let N = rw named at c.in_ok-token.ensures in
+    record { token = name N.spelt; stood = stands {t = name N.spelt} N.shown; named = N.free; whole = c.in_ok-path.ensures }

@@ -16,14 +16,14 @@ decreases-read_statements l = 2 * (length l.src.now - l.from.at)
 abbrev pub decreases-read_value : goal.decreases-read_value
 decreases-read_value l = 2 * (length l.src.now - l.from.at)
 
-abbrev pub invariant-read_prototypes-loop-place : goal.invariant-read_prototypes-loop-place
-invariant-read_prototypes-loop-place l = PrototypesLoop l.src l.initial.c l.left l.initial.work l.work l.c
+abbrev pub invariant-read_prototypes-loop-prototype : goal.invariant-read_prototypes-loop-prototype
+invariant-read_prototypes-loop-prototype l = PrototypesLoop l.src l.initial.here l.left l.initial.work l.work l.here
 
-abbrev pub decreases-read_prototypes-loop-place : goal.decreases-read_prototypes-loop-place
-decreases-read_prototypes-loop-place l = length l.src - l.c.at
+abbrev pub decreases-read_prototypes-loop-prototype : goal.decreases-read_prototypes-loop-prototype
+decreases-read_prototypes-loop-prototype l = length l.src - l.here.at
 
-abbrev pub invariant-read_statements-loop-place : goal.invariant-read_statements-loop-place
-invariant-read_statements-loop-place l = StatementsLoop l.src l.initial.c l.left l.initial.work l.work l.c
+abbrev pub invariant-read_statements-loop-target : goal.invariant-read_statements-loop-target
+invariant-read_statements-loop-target l = StatementsLoop l.src l.initial.here l.left l.initial.work l.work l.here
 
-abbrev pub decreases-read_statements-loop-place : goal.decreases-read_statements-loop-place
-decreases-read_statements-loop-place l = length l.src - l.c.at
+abbrev pub decreases-read_statements-loop-target : goal.decreases-read_statements-loop-target
+decreases-read_statements-loop-target l = length l.src - l.here.at

@@ -1,24 +1,12 @@
 -- `follows`: by the sorts of token. Assumes nothing.
-use Rattle.grammar.proofs.Rules.Marks.{name_no_mark, reserved_no_mark, written_no_mark, end_no_mark, not_mark, not_this_mark}
+use mathlib.Core.Path.{◌≡◌}
+use Rattle.std.proofs.Common.{rules}
+use Rattle.tokens.specs.declared.Kind.TheVariants.{Mark}
+use Rattle.grammar.proofs.Rules.Marks.{no_mark, not_mark}
 use Rattle.grammar.proofs.token.follows.Goals as goal
 
-pub returns-then-found-byte : goal.returns-then-found-byte
-returns-then-found-byte c = rw c.if-found-byte.true at (rw c.in-Mark.is at c.token_at.ensures)
-
-pub returns-else-found-byte : goal.returns-else-found-byte
-returns-else-found-byte c = not_this_mark _ _ _ (rw c.in-Mark.is at c.token_at.ensures) _ c.if-found-byte.false
-
-pub returns-in-Name : goal.returns-in-Name
-returns-in-Name c = not_mark _ _ _ (name_no_mark _ _ _ (rw c.in-Name.is at c.token_at.ensures)) _
-
-pub returns-in-Reserved : goal.returns-in-Reserved
-returns-in-Reserved c = not_mark _ _ _ (reserved_no_mark _ _ _ _ _ _ c.in-Reserved.is c.token_at.ensures) _
-
-pub returns-in-Written : goal.returns-in-Written
-returns-in-Written c = not_mark _ _ _ (written_no_mark _ _ _ _ _ _ c.in-Written.is c.token_at.ensures) _
-
-pub returns-in-End : goal.returns-in-End
-returns-in-End c = not_mark _ _ _ (end_no_mark _ _ _ (rw c.in-End.is at c.token_at.ensures)) _
-
-pub returns-in-Fault : goal.returns-in-Fault
-returns-in-Fault c = rw c.in-Fault.is at c.token_at.ensures
+pub returns-else-eq : goal.returns-else-eq
+returns-else-eq c =
+    let t = c.in_ok-token.token in
+    let other : t.kind ≡ Mark c.args.byte → ⊥ = search rules in
+    not_mark (no_mark _ _ t.at t.end t.kind c.in_ok-token.ensures _ other)

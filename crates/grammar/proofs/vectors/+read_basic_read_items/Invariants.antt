@@ -9,8 +9,8 @@ decreases-read_basic l = 2 * (length l.src.now - l.from.at) + 1
 abbrev pub decreases-read_items : goal.decreases-read_items
 decreases-read_items l = 2 * (length l.src.now - l.from.at)
 
-abbrev pub invariant-read_items-loop-basic : goal.invariant-read_items-loop-basic
-invariant-read_items-loop-basic l = ItemsLoop l.src l.initial.c l.left l.initial.work l.work l.c
+abbrev pub invariant-read_items-loop-found : goal.invariant-read_items-loop-found
+invariant-read_items-loop-found l = ItemsLoop l.src l.initial.here l.left l.initial.work l.work l.here
 
-abbrev pub decreases-read_items-loop-basic : goal.decreases-read_items-loop-basic
-decreases-read_items-loop-basic l = length l.src - l.c.at
+abbrev pub decreases-read_items-loop-found : goal.decreases-read_items-loop-found
+decreases-read_items-loop-found l = length l.src - l.here.at

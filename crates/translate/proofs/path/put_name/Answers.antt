@@ -1,15 +1,10 @@
 -- `put_name`: the length, then the bytes. Assumes nothing.
-use lib.ListN.{length-set}
 use native.Mathlib.Omega.{arith}
-use mathlib.Core.Path.{◌∙◌}
 use Rattle.translate.proofs.Rules.Paths.{name_size, name_put}
 use Rattle.translate.proofs.path.put_name.Goals as goal
 
 pub bounds-out-to : goal.bounds-out-to
 bounds-out-to c = omega (arith, name_size c.args.name.now, c.requires.room.room)
-
-pub shape_of-out : goal.shape_of-out
-shape_of-out c = c.copy.auto.dst ∙ simp length-set
 
 pub returns : goal.returns
 returns c = name_put c.requires c.copy.ensures

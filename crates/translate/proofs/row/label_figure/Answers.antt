@@ -6,5 +6,5 @@ use Rattle.translate.proofs.row.label_figure.Goals as goal
 pub returns-then-has_path : goal.returns-then-has_path
 returns-then-has_path c = figure_text 0 _ (sym c.has_path.ensures ∙ c.if-has_path.true)
 
-pub returns : goal.returns
-returns c = figure_number 0 _ (sym c.has_path.ensures ∙ c.if-has_path.false)
+pub returns-else-has_path : goal.returns-else-has_path
+returns-else-has_path c = figure_number 0 _ (sym c.has_path.ensures ∙ c.if-has_path.false)

@@ -1,17 +1,10 @@
--- `value_figure`: by the sorts of value. Assumes nothing.
-use Rattle.grammar.specs.Ties.{is_path}
+-- `value_figure`: by whether there is a text. Assumes nothing.
 use mathlib.Core.Path.{sym, ◌∙◌}
-use Rattle.translate.proofs.Rules.Rows.{figure_text, figure_number, is_text, long_decimal, long_string, no_text}
+use Rattle.translate.proofs.Rules.Rows.{figure_text, figure_number}
 use Rattle.translate.proofs.row.value_figure.Goals as goal
 
-pub returns-then-is_path : goal.returns-then-is_path
-returns-then-is_path c = figure_text _ _ (is_text _ _ (sym c.is_path.ensures ∙ c.if-is_path.true))
+pub returns-then-has_text : goal.returns-then-has_text
+returns-then-has_text c = figure_text _ _ (sym c.has_text.ensures ∙ c.if-has_text.true)
 
-pub returns-then-kind-eq-DECIMAL : goal.returns-then-kind-eq-DECIMAL
-returns-then-kind-eq-DECIMAL c = figure_text _ _ (long_decimal (is_path c.args.step c.args.kind) _ c.if-kind-eq-DECIMAL.true)
-
-pub returns-then-kind-eq-TEXT : goal.returns-then-kind-eq-TEXT
-returns-then-kind-eq-TEXT c = figure_text _ _ (long_string (is_path c.args.step c.args.kind) _ c.if-kind-eq-TEXT.true)
-
-pub returns : goal.returns
-returns c = figure_number _ _ (no_text _ _ (sym c.is_path.ensures ∙ c.if-is_path.false) c.if-kind-eq-DECIMAL.false c.if-kind-eq-TEXT.false)
+pub returns-else-has_text : goal.returns-else-has_text
+returns-else-has_text c = figure_number _ _ (sym c.has_text.ensures ∙ c.if-has_text.false)

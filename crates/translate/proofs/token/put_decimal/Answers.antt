@@ -4,6 +4,3 @@ use Rattle.translate.proofs.token.put_decimal.Goals as goal
 
 pub put_text-requires : goal.put_text-requires
 put_text-requires c = rw c.decimal_at.ensures (decimal_fits c.requires)
-
-pub returns : goal.returns
-returns c = rw c.decimal_at.ensures at c.put_text.ensures
