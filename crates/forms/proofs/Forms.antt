@@ -2,7 +2,7 @@
 use Prim.Native.Nat.{ℕ, ◌+◌, ◌≤◌}
 use native.Mathlib.Omega.{arith}
 use mathlib.Core.Path.{◌≡◌}
-use mathlib.Core.Bool.{false}
+use mathlib.Core.Bool.{Bool, true, false}
 use mathlib.Core.List.{List}
 use lib.ListN.{length}
 use lib.Dec.{eqb}
@@ -18,6 +18,10 @@ pub fields_in : (w : ℕ) (recs : List ℕ) (i : ℕ) → i + (16 + w) ≤ lengt
 unfolding fields raw_at
 fields_in w recs i h =
     rw (word_in 2 recs i (omega arith), word_in 2 recs (i + 2) (omega arith), word_in 2 recs (i + 4) (omega arith), word_in 2 recs (i + 6) (omega arith), word_in 8 recs (i + 8) (omega arith), word_in w recs (i + 16) (omega arith))
+
+-- no test came out both ways
+pub no_both : {A : Type 0} {b : Bool} → b ≡ true → b ≡ false → A
+no_both e f = let z : ◌≡◌ {A = ℕ} 0 1 = cc in absurd (omega arith)
 
 -- ---- an element's record, one law for each way through the code
 

@@ -1,3 +1,4 @@
 pub mod Forms
 pub mod Headers
+pub mod Puts
 pub mod Determined

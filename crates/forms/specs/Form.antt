@@ -13,11 +13,11 @@ unfoldable pub form_of : Form → Decoder.Form
 form_of Table = in_table
 form_of Steps = in_steps
 
-unfoldable pub number_of : Form → ℕ
+abbrev pub number_of : Form → ℕ
 number_of Table = 2
 number_of Steps = 1
 
-unfoldable pub most_text : Form → ℕ
+abbrev pub most_text : Form → ℕ
 most_text Table = 16384
 most_text Steps = 32768
 

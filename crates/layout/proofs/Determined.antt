@@ -9,36 +9,37 @@ use Rattle.paper.specs.Decoder.{Cursor}
 use Rattle.paper.specs.DecodeAt.{cursor}
 use Rattle.paper.specs.Determines.{Determines, ◌&◌}
 use Rattle.layout.specs.Walk.{WalkIs, Inside}
-use Rattle.layout.specs.declared.walk.Walk.{Walk}
-use Rattle.layout.specs.declared.walk.Walk.TheVariants.{Walked, Wrong}
+use Rattle.std.specs.Prelude.{Option as RustOption, Some, None}
+use Rattle.layout.specs.declared.walk.Place.{Place}
+use Rattle.layout.proofs.Steps.{place}
 use Rattle.layout.proofs.walk.head.Reads as Head
 use Rattle.layout.proofs.walk.basic.Reads as Basic
 
 -- one reader stands at one place of the text, and of the records too, which it has not left
 one_place : (recs recs' text text' : List ℕ) (i i' p p' : ℕ)
     → recs ≡ recs' → cursor recs text i p ≡ cursor recs' text' i' p' → i ≤ length recs → i' ≤ length recs'
-    → Walked i p ≡ Walked i' p'
+    → place i p ≡ place i' p'
 unfolding cursor
 one_place recs recs' text text' i i' p p' g e l l' =
     let records : i ≡ i' = omega (arith, ap length g, simp length-drop at (ap (λ (c : Cursor). length c.recs) e)) in
     let place : p ≡ p' = ap (λ (c : Cursor). c.pos) e in
     cc
 
-walk_one : {A : Type 0} (o o' : Option (A × Cursor)) (recs recs' text text' : List ℕ) (r r' : Walk)
+walk_one : {A : Type 0} (o o' : Option (A × Cursor)) (recs recs' text text' : List ℕ) (r r' : RustOption Place)
     → WalkIs o recs text r → WalkIs o' recs' text' r' → Inside recs r → Inside recs' r' → o ≡ o' → recs ≡ recs'
     → r ≡ r'
-walk_one {A} o o' recs recs' text text' (Walked i p) (Walked i' p') e f l l' h g =
+walk_one {A} o o' recs recs' text text' (Some at) (Some at') e f l l' h g =
     let s = some-injective _ _ (sym e.1 ∙ h ∙ f.1) in
-    one_place recs recs' text text' i i' p p' g (ap (λ (x : A × Cursor). x.1) s) l l'
-walk_one o o' recs recs' text text' (Walked i p) Wrong e f l l' h g = cc
-walk_one o o' recs recs' text text' Wrong (Walked i' p') e f l l' h g = cc
-walk_one o o' recs recs' text text' Wrong Wrong e f l l' h g = cc
+    ap Some (one_place recs recs' text text' at.record at'.record at.text at'.text g (ap (λ (x : A × Cursor). x.1) s) l l')
+walk_one o o' recs recs' text text' (Some at) None e f l l' h g = cc
+walk_one o o' recs recs' text text' None (Some at') e f l l' h g = cc
+walk_one o o' recs recs' text text' None None e f l l' h g = cc
 
 pub record Determined : Type 0 where
   pub head : Determines Head.Post (λ _ (form, (recs, (i, (depth, (left, _))))). form & recs.now & i & depth & left)
       λ _ r _. r
   pub basic : Determines Basic.Post
-      (λ _ (form, (recs, (text, (depth, (span, (i, (p, _))))))). form & recs.now & text.now & depth & span & i & p)
+      (λ _ (form, (body, (depth, (span, (at, _))))). form & body.records.now & body.text.now & depth & span & at)
       λ _ r _. r
 
 pub determined : Determined

@@ -2,7 +2,7 @@
 use Prim.Native.Nat.{ℕ, zero, suc, ◌+◌, ◌-◌, ◌≤◌, ◌<◌}
 use native.Mathlib.Omega.{arith}
 use mathlib.Core.Path.{◌≡◌, refl, sym, ◌∙◌, ap}
-use mathlib.Core.Bool.{Bool, true, false, ◌&&◌}
+use mathlib.Core.Bool.{Bool, true, false, ◌&&◌, ◌||◌}
 use mathlib.Core.List.{List}
 use mathlib.Core.Logic.{⊎_elim}
 use mathlib.Core.Option.{Option, none, some}
@@ -30,6 +30,23 @@ pub record Head (form : Form) (recs : List ℕ) (i d n : ℕ) : Type 0 where
   pub some : 1 ≤ word 2 recs (i + 6)
   pub few : word 2 recs (i + 6) ≤ n
 
+-- a test that stands behind another
+pub and_then : {a b r : Bool} → a ≡ true → r ≡ b → r ≡ (a && b)
+and_then e f = f ∙ rw e
+
+pub and_else : {a r : Bool} (b : Bool) → a ≡ false → r ≡ a → r ≡ (a && b)
+and_else b e f = f ∙ e ∙ rw e
+
+pub or_then : {a r : Bool} (b : Bool) → a ≡ true → r ≡ a → r ≡ (a || b)
+or_then b e f = f ∙ e ∙ rw e
+
+pub or_else : {a b r : Bool} → a ≡ false → r ≡ b → r ≡ (a || b)
+or_else e f = f ∙ rw e
+
+and_assoc : (a b c : Bool) → ((a && b) && c) ≡ (a && (b && c))
+and_assoc true b c = refl
+and_assoc false b c = refl
+
 pub and_true : (a b : Bool) → (a && b) ≡ true → (a ≡ true) × (b ≡ true)
 and_true true b e = (refl, e)
 and_true false b e = let z : ◌≡◌ {A = ℕ} 0 1 = cc in absurd (omega arith)
@@ -48,24 +65,14 @@ module _ (form : Form) (recs : List ℕ) (i d n : ℕ) where
       let e = and_true (leb 1 (word 2 recs (i + 6))) _ b.1 in
       record { within = leb-true _ _ a.0; deep = leb-true _ _ b.0; some = leb-true _ _ e.0; few = leb-true _ _ e.1 }
 
-  -- the ways through the code
-  pub head_outside : length recs < i + size_of form → false ≡ heads form recs i d n
+  -- what the code tests
+  pub head_is : (s : ℕ) {within spanned : Bool} → (i + size_of form ≤ length recs → s ≡ word 2 recs (i + 6))
+      → within ≡ (leb (i + size_of form) (length recs) && leb d 32) → spanned ≡ (leb 1 s && leb s n) → (within && spanned) ≡ heads form recs i d n
   unfolding heads
-  head_outside h = rw (lt-leb (i + size_of form) (length recs) h)
-
-  module _ (w : i + size_of form ≤ length recs) where
-    pub head_deep : 32 < d → false ≡ heads form recs i d n
-    unfolding heads
-    head_deep h = rw (le-leb (i + size_of form) (length recs) w, lt-leb d 32 h)
-
-    module _ (s : ℕ) (l : d ≤ 32) (f : s ≡ word 2 recs (i + 6)) where
-      pub head_none : s < 1 → false ≡ heads form recs i d n
-      unfolding heads
-      head_none h = rw (le-leb (i + size_of form) (length recs) w, le-leb d 32 l, ← f, lt-leb 1 s h)
-
-      pub head_few : 1 ≤ s → leb s n ≡ heads form recs i d n
-      unfolding heads
-      head_few h = rw (le-leb (i + size_of form) (length recs) w, le-leb d 32 l, ← f, le-leb 1 s h)
+  head_is s f a b =
+      rw (a, b)
+      (and_assoc (leb (i + size_of form) (length recs)) (leb d 32) (leb 1 s && leb s n)
+      ∙ ⊎_elim (λ h. rw (f h)) (λ h. rw (lt-leb (i + size_of form) (length recs) h)) (fit (i + size_of form) (length recs)))
 
 -- ---- readers at a record
 

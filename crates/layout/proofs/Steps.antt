@@ -20,21 +20,23 @@ use Rattle.paper.specs.DecodeFrom.{basic_from}
 use Rattle.memory.specs.Memory.{word_at}
 use Rattle.memory.proofs.Laws.{word_in}
 use Rattle.forms.specs.declared.form.Form.{Form}
-use Rattle.texts.specs.declared.Past.TheVariants.{At, Bad}
-use Rattle.layout.specs.declared.walk.Walk.{Walk}
-use Rattle.layout.specs.declared.walk.Walk.TheVariants.{Walked, Wrong}
+use Rattle.std.specs.Prelude.{Option as RustOption, Some, None}
+use Rattle.layout.specs.declared.walk.Place.{Place}
 use Rattle.forms.specs.Form.{form_of, size_of, top_of, kind_of, fits_in}
 use Rattle.texts.specs.Text.{LeafIs}
 use Rattle.layout.specs.Walk.{WalkIs, basic_here, elements_here}
 use Rattle.forms.proofs.Forms.{fields_in}
 use Rattle.layout.proofs.Heads.{Head, record_outside, basic_inside, elements_open, stop, sized}
 
+abbrev pub place : ℕ → ℕ → Place
+place i p = record { «record» = i; text = p }
+
 module _ {A B : Type 0} (recs text : List ℕ) (o : Option (A × Cursor)) (f : A → B) where
   -- what was found is put into something
-  pub onto : (r : Walk) → WalkIs o recs text r → WalkIs (o >>= λ x. some (f x.0, x.1)) recs text r
+  pub onto : (r : RustOption Place) → WalkIs o recs text r → WalkIs (o >>= λ x. some (f x.0, x.1)) recs text r
   unfolding ◌>>=◌
-  onto (Walked i p) w = (f w.0, rw w.1)
-  onto Wrong w = rw w
+  onto (Some at) w = (f w.0, rw w.1)
+  onto None w = rw w
 
 -- ---- basics
 
@@ -62,7 +64,7 @@ module _ (form : Form) (recs text : List ℕ) (d m i p : ℕ) (b : Bytes recs) w
     unfolding basic_body when◌then◌else◌ ◌>>=◌ require top_of
     basic_deep a z l = basic_open ∙ basic_is (form_of form) d k m v _ ∙ rw (a, eq-eqb v 0 z, lt-leb d (form_of form).top l)
 
-    pub basic_vector : (r : Walk) → k ≡ 7 → v ≡ 0 → d ≤ top_of form → WalkIs (elements_here form recs text (d + 1) (m - 1) (i + size_of form) p) recs text r → WalkIs (basic_here form recs text d m i p) recs text r
+    pub basic_vector : (r : RustOption Place) → k ≡ 7 → v ≡ 0 → d ≤ top_of form → WalkIs (elements_here form recs text (d + 1) (m - 1) (i + size_of form) p) recs text r → WalkIs (basic_here form recs text d m i p) recs text r
     unfolding basic_body when◌then◌else◌ ◌>>=◌ require top_of elements_here
     basic_vector r a z l w =
         rw (basic_open, basic_is (form_of form) d k m v (cursor recs text (i + size_of form) p), a, eq-eqb v 0 z, le-leb d (form_of form).top l)
@@ -72,19 +74,19 @@ module _ (form : Form) (recs text : List ℕ) (d m i p : ℕ) (b : Bytes recs) w
     unfolding basic_body when◌then◌else◌ ◌>>=◌ require
     basic_wide a z = basic_open ∙ basic_is (form_of form) d k m v _ ∙ rw (ne_eqb k 7 a, ne_eqb m 1 z)
 
-    pub basic_leaf : (q : ℕ) → (k ≡ 7 → ⊥) → m ≡ 1 → LeafIs text k v p (At q) → WalkIs (basic_here form recs text d m i p) recs text (Walked (i + size_of form) q)
+    pub basic_leaf : (q : ℕ) → (k ≡ 7 → ⊥) → m ≡ 1 → LeafIs text k v p (Some q) → WalkIs (basic_here form recs text d m i p) recs text (Some (place (i + size_of form) q))
     unfolding basic_body when◌then◌else◌ ◌>>=◌ require
     basic_leaf q a z w =
         let t = w recs (i + size_of form) in
         (t.0, basic_open ∙ basic_is (form_of form) d k m v _ ∙ rw (ne_eqb k 7 a, eq-eqb m 1 z) t.1)
 
-    pub basic_no : (k ≡ 7 → ⊥) → m ≡ 1 → LeafIs text k v p Bad → basic_here form recs text d m i p ≡ none
+    pub basic_no : (k ≡ 7 → ⊥) → m ≡ 1 → LeafIs text k v p None → basic_here form recs text d m i p ≡ none
     unfolding basic_body when◌then◌else◌ ◌>>=◌ require
     basic_no a z w = basic_open ∙ basic_is (form_of form) d k m v _ ∙ rw (ne_eqb k 7 a, eq-eqb m 1 z) (w recs (i + size_of form))
 
 -- ---- elements
 
-pub elements_end : (form : Form) (recs text : List ℕ) (d n i p : ℕ) → n ≡ 0 → WalkIs (elements_here form recs text d n i p) recs text (Walked i p)
+pub elements_end : (form : Form) (recs text : List ℕ) (d n i p : ℕ) → n ≡ 0 → WalkIs (elements_here form recs text d n i p) recs text (Some (place i p))
 unfolding elements_here
 elements_end form recs text d n i p z = (εⱽ, rw z (elements_none (form_of form) d (cursor recs text i p)))
 
@@ -93,7 +95,7 @@ module _ (form : Form) (recs text : List ℕ) (d n i p : ℕ) (b : Bytes recs) (
   unfolding ◌>>=◌
   elements_no w = elements_open form recs text i p d b n H l ∙ rw (← f, w)
 
-  pub elements_more : (j q : ℕ) (r : Walk) → WalkIs (basic_here form recs text d s i p) recs text (Walked j q) → WalkIs (elements_here form recs text d (n - s) j q) recs text r → WalkIs (elements_here form recs text d n i p) recs text r
+  pub elements_more : (j q : ℕ) (r : RustOption Place) → WalkIs (basic_here form recs text d s i p) recs text (Some (place j q)) → WalkIs (elements_here form recs text d (n - s) j q) recs text r → WalkIs (elements_here form recs text d n i p) recs text r
   unfolding elements_here ◌>>=◌
   elements_more j q r w t =
       let o : elements_here form recs text d n i p ≡ _ = elements_open form recs text i p d b n H l in

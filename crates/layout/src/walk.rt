@@ -1,124 +1,100 @@
 // Records of basics: where those of one, and those of a vector's elements, end, if they are as they should be.
-ghost use Rattle.std.specs.Prelude.{◌≡◌, ◌-◌, ◌≤◌, length};
+ghost use Rattle.std.specs.Prelude.{◌≡◌, ◌≤◌, length};
+ghost use Rattle.layout.specs.Bytes.{AreBytes};
 ghost use Rattle.layout.specs.Walk.{heads, WalkIs, Inside, basic_here, elements_here};
 
 use fields::{span_at, value_at};
-use forms::{Form, element_fits, kind_of, size, top};
+use forms::Form;
+use kinds::Kind;
 use memory::fits;
-use texts::{Past, leaf};
+use texts::leaf;
 
 const DEEPEST: usize = 32;
 
 // How many nodes a basic spans that is no vector.
 const LEAF: usize = 1;
 
+// What follows the header: the records, and their text.
 #[derive(Clone, Copy)]
-pub enum Walk {
-    Walked { record: usize, text: usize },
-    Wrong,
+pub struct Body<'a> {
+    pub records: &'a [u8],
+    pub text: &'a [u8],
+    // As of every slice of bytes: each is below 256.
+    ghost are_bytes: { AreBytes records.now },
 }
 
-// What is asked of every node: it lies within, no deeper than the bound, and spans one node or more and no more than are left.
-pub fn head(form: Form, recs: &[u8], i: usize, depth: usize, left: usize) -> bool
-    ensures { result ≡ heads form recs.now i depth left }
-{
-    if !fits(recs.len(), i, size(form)) {
-        return false;
-    }
-    if DEEPEST < depth {
-        return false;
-    }
-    let span = span_at(recs, i);
-    if span < 1 {
-        return false;
-    }
-    span <= left
+// Where a reader stands: at a byte of the records, and at one of the text.
+#[derive(Clone, Copy, Debug, PartialEq, Eq)]
+pub struct Place {
+    pub record: usize,
+    pub text: usize,
 }
 
-fn one_less(n: usize) -> usize
-    ensures { result ≡ n - 1 }
+// What is asked of every node: it lies within, no deeper than the bound, and spans one node or more,
+// and no more than are left.
+pub fn head(form: Form, records: &[u8], i: usize, depth: usize, left: usize) -> bool
+    ensures { result ≡ heads form records.now i depth left }
 {
-    if n < 1 { 0 } else { n - 1 }
+    let span = span_at(records, i);
+    let within = fits(records.len(), i, form.size()) && depth <= DEEPEST;
+    let spanned = 1 <= span && span <= left;
+    within && spanned
 }
 
 // The basic at a record, which spans so many.
 #[cycle(basic_elements)]
-pub fn basic(
-    form: Form,
-    recs: &[u8],
-    text: &[u8],
-    depth: usize,
-    span: usize,
-    i: usize,
-    p: usize,
-) -> Walk
-    ensures { WalkIs (basic_here form recs.now text.now depth span i p) recs.now text.now result × Inside recs.now result }
+pub fn basic(form: Form, body: Body, depth: usize, span: usize, at: Place) -> Option<Place>
+    ensures { WalkIs
+        (basic_here form body.entry.records.now body.entry.text.now depth span at.record at.text)
+        body.entry.records.now body.entry.text.now result
+        × Inside body.entry.records.now result }
 {
-    let bytes = size(form);
-    if !fits(recs.len(), i, bytes) {
-        return Walk::Wrong;
+    let Body { records, text } = body;
+    let size = form.size();
+    if !fits(records.len(), at.record, size) {
+        return None;
     }
-    let next = i + bytes;
-    let kind = kind_of(form, recs, i);
-    let value = value_at(recs, i);
-    if kind == 7 {
-        if value != 0 {
-            return Walk::Wrong;
+    let next = at.record + size;
+    let kind = form.kind_of(records, at.record);
+    let value = value_at(records, at.record);
+    if kind == Kind::Vector.number() {
+        if value != 0 || form.top() < depth {
+            return None;
         }
-        if top(form) < depth {
-            return Walk::Wrong;
-        }
-        return elements(form, recs, text, depth + 1, one_less(span), next, p);
+        let first = Place { record: next, ..at };
+        return elements(form, body, depth + 1, span.saturating_sub(1), first);
     }
     if span != LEAF {
-        return Walk::Wrong;
+        return None;
     }
-    match leaf(text, kind, value, p) {
-        Past::At(q) => Walk::Walked {
-            record: next,
-            text: q,
-        },
-        Past::Bad => Walk::Wrong,
-    }
+    let end = leaf(text, usize::from(kind), value, at.text)?;
+    Some(Place {
+        record: next,
+        text: end,
+    })
 }
 
 #[cycle(basic_elements)]
-fn elements(
-    form: Form,
-    recs: &[u8],
-    text: &[u8],
-    depth: usize,
-    n: usize,
-    first: usize,
-    from: usize,
-) -> Walk
-    requires { first ≤ length recs.now }
-    ensures { WalkIs (elements_here form recs.now text.now depth n first from) recs.now text.now result × Inside recs.now result }
+fn elements(form: Form, body: Body, depth: usize, n: usize, first: Place) -> Option<Place>
+    requires { first.record ≤ length body.records.now }
+    ensures { WalkIs
+        (elements_here form body.entry.records.now body.entry.text.now depth n first.record first.text)
+        body.entry.records.now body.entry.text.now result
+        × Inside body.entry.records.now result }
 {
-    let mut i = first;
-    let mut p = from;
+    let Body { records, .. } = body;
+    let mut at = first;
     let mut left = n;
+    // A turn passes an element, which spans one node or more: there is no range to go over.
     while 0 < left {
-        if !head(form, recs, i, depth, left) {
-            return Walk::Wrong;
+        if !head(form, records, at.record, depth, left)
+            || !form.element_fits(records, at.record, depth)
+        {
+            return None;
         }
-        if !element_fits(form, recs, i, depth) {
-            return Walk::Wrong;
-        }
-        let span = span_at(recs, i);
-        match basic(form, recs, text, depth, span, i, p) {
-            Walk::Walked {
-                record: next,
-                text: q,
-            } => {
-                i = next;
-                p = q;
-                left -= span;
-            }
-            Walk::Wrong => {
-                return Walk::Wrong;
-            }
-        }
+        let span = span_at(records, at.record);
+        at = basic(form, body, depth, span, at)?;
+        left -= span;
     }
-    Walk::Walked { record: i, text: p }
+    Some(at)
 }

@@ -1,13 +1,14 @@
 -- One step record: the paper's tests, one law for each way through the code. Assumes nothing.
 use Prim.Native.Nat.{ℕ, ◌+◌, ◌≤◌, ◌<◌}
 use native.Mathlib.Omega.{arith}
-use mathlib.Core.Path.{◌≡◌, sym, ◌∙◌}
-use mathlib.Core.Bool.{Bool, true, false}
+use mathlib.Core.Path.{◌≡◌, refl, sym, ◌∙◌}
+use mathlib.Core.Bool.{Bool, true, false, ◌&&◌, ◌||◌}
 use mathlib.Core.List.{List}
-use mathlib.Core.Option.{none, some}
+use mathlib.Core.Option.{Option, none, some}
 use lib.ListN.{length}
-use lib.Dec.{ltb, eqb}
-use borrow.Author.Tests.{le-leb, lt-leb, eq-eqb, ne_eqb}
+use mathlib.Core.Logic.{⊎_elim}
+use lib.Dec.{leb, ltb, eqb}
+use borrow.Author.Tests.{lt-leb, ne_eqb}
 use Rattle.paper.specs.Scanner.{empty}
 use Rattle.paper.specs.Maybe.{◌>>=◌, require}
 use Rattle.paper.specs.Decoder.{Cursor, Raw, record_at}
@@ -15,7 +16,7 @@ use Rattle.paper.specs.StepDecoder.{plain, bare, step_here, stops}
 use Rattle.theorems.proofs.Laws.DecodeAt.{Bytes, record_here, record_short}
 use Rattle.paper.specs.DecodeAt.{word, raw_at, cursor}
 use Rattle.memory.specs.Memory.{word_at}
-use Rattle.memory.proofs.Laws.{word_in}
+use Rattle.memory.proofs.Laws.{fit, word_in}
 use Rattle.forms.specs.Form.{fields}
 use Rattle.layout.proofs.Ends.{empty_yes, empty_no}
 use Rattle.forms.proofs.Forms.{fields_in}
@@ -56,73 +57,48 @@ module _ (recs : List ℕ) (i : ℕ) where
     stops_leave s h f text p =
         stops_is (cursor recs text i p) s (here text p) (step_some (cursor recs text i p) (raw_at 4 recs i, cursor recs text (i + 20) p) (record_here 4 recs text i p b h) ∙ first_is h ∙ sym f)
 
-  pub opens_cut : length recs < i + 20 → false ≡ opens_at recs i
+  pub opens_is : (s : ℕ) → s ≡ word_at 2 recs i → (leb (i + 20) (length recs) && (eqb s 2 || eqb s 3)) ≡ opens_at recs i
   unfolding opens_at
-  opens_cut h = rw (lt-leb (i + 20) (length recs) h)
-
-  module _ (h : i + 20 ≤ length recs) (s : ℕ) (f : s ≡ word_at 2 recs i) where
-    step_is : word 2 recs i ≡ s
-    step_is = sym (f ∙ word_in 2 recs i (omega arith))
-
-    pub opens_take : s ≡ 2 → true ≡ opens_at recs i
-    unfolding opens_at
-    opens_take e = rw (le-leb (i + 20) (length recs) h, step_is, e)
-
-    pub opens_enter : (s ≡ 2 → ⊥) → eqb s 3 ≡ opens_at recs i
-    unfolding opens_at
-    opens_enter e = rw (le-leb (i + 20) (length recs) h, step_is, ne_eqb s 2 e)
+  opens_is s e =
+      ⊎_elim
+      (λ h. let f : s ≡ word 2 recs i = e ∙ word_in 2 recs i (omega arith) in rw (← f))
+      (λ h. rw (lt-leb (i + 20) (length recs) h)) (fit (i + 20) (length recs))
 
 -- ---- the fields
 
-module _ (recs : List ℕ) (i step : ℕ) (s : ℕ) (es : s ≡ word_at 2 recs i) where
-  pub plain_step : (s ≡ step → ⊥) → plain step (fields 4 recs i) ≡ require false
-  unfolding plain fields ◌>>=◌ require
-  plain_step h = rw (← es, ne_eqb s step h)
+-- tests one after another, as the code groups them
+four : (a b c d : Bool) → (require a >>= λ _. require b >>= λ _. require c >>= λ _. require d) ≡ require ((a && (b && c)) && d)
+unfolding ◌>>=◌ require
+four false b c d = refl
+four true false c d = refl
+four true true false d = refl
+four true true true d = refl
 
-  module _ (os : s ≡ step) (k : ℕ) (ek : k ≡ word_at 2 recs (i + 2)) where
-    pub plain_kind : (k ≡ 0 → ⊥) → plain step (fields 4 recs i) ≡ require false
-    unfolding plain fields ◌>>=◌ require
-    plain_kind h = rw (← es, eq-eqb s step os, ← ek, ne_eqb k 0 h)
-
-    module _ (ok : k ≡ 0) (m : ℕ) (em : m ≡ word_at 2 recs (i + 6)) where
-      pub plain_span : (m ≡ 0 → ⊥) → plain step (fields 4 recs i) ≡ require false
-      unfolding plain fields ◌>>=◌ require
-      plain_span h = rw (← es, eq-eqb s step os, ← ek, eq-eqb k 0 ok, ← em, ne_eqb m 0 h)
-
-      pub plain_place : m ≡ 0 → (p : ℕ) → p ≡ word_at 4 recs (i + 16) → plain step (fields 4 recs i) ≡ require (ltb p 32768)
-      unfolding plain fields ◌>>=◌ require
-      plain_place om p ep = rw (← es, eq-eqb s step os, ← ek, eq-eqb k 0 ok, ← em, eq-eqb m 0 om, ← ep)
+three : (t a b c : Bool) (o : Option (Unit {0})) → o ≡ require t → (o >>= λ _. require a >>= λ _. require b >>= λ _. require c) ≡ require ((t && (a && b)) && c)
+unfolding ◌>>=◌
+three t a b c o e = rw e (four t a b c)
 
 module _ (recs : List ℕ) (i step : ℕ) where
-  pub bare_not_plain : plain step (fields 4 recs i) ≡ require false → bare step (fields 4 recs i) ≡ require false
-  unfolding bare ◌>>=◌ require
-  bare_not_plain h = rw h
+  pub plain_is : (s k m p : ℕ) → s ≡ word_at 2 recs i → k ≡ word_at 2 recs (i + 2) → m ≡ word_at 2 recs (i + 6) → p ≡ word_at 4 recs (i + 16)
+      → plain step (fields 4 recs i) ≡ require ((eqb s step && (eqb k 0 && eqb m 0)) && ltb p 32768)
+  unfolding plain fields
+  plain_is s k m p es ek em ep = rw (← es, ← ek, ← em, ← ep) (four (eqb s step) (eqb k 0) (eqb m 0) (ltb p 32768))
 
-  module _ (h : plain step (fields 4 recs i) ≡ require true) (l : ℕ) (el : l ≡ word_at 2 recs (i + 4)) where
-    fields_label : (fields 4 recs i).label ≡ l
-    unfolding fields
-    fields_label = sym el
+  pub plain_step : (s : ℕ) → s ≡ word_at 2 recs i → (s ≡ step → ⊥) → plain step (fields 4 recs i) ≡ require false
+  plain_step s es h = plain_is s (word_at 2 recs (i + 2)) (word_at 2 recs (i + 6)) (word_at 4 recs (i + 16)) es refl refl refl ∙ rw (ne_eqb s step h)
 
-    fields_value : (v : ℕ) → v ≡ word_at 8 recs (i + 8) → (fields 4 recs i).value ≡ v
-    unfolding fields
-    fields_value v ev = sym ev
+  bare_of : (x : Raw) (t : Bool) → plain step x ≡ require t → bare step x ≡ require ((t && (eqb x.label 0 && eqb x.value 0)) && eqb x.place 0)
+  unfolding bare
+  bare_of x t e = three t (eqb x.label 0) (eqb x.value 0) (eqb x.place 0) _ e
 
-    fields_place : (p : ℕ) → p ≡ word_at 4 recs (i + 16) → (fields 4 recs i).place ≡ p
-    unfolding fields
-    fields_place p ep = sym ep
+  same : (t : Bool) (l v p : ℕ) → l ≡ word_at 2 recs (i + 4) → v ≡ word_at 8 recs (i + 8) → p ≡ word_at 4 recs (i + 16)
+      → require ((t && (eqb (fields 4 recs i).label 0 && eqb (fields 4 recs i).value 0)) && eqb (fields 4 recs i).place 0) ≡ require ((t && (eqb l 0 && eqb v 0)) && eqb p 0)
+  unfolding fields
+  same t l v p el ev ep = rw (← el, ← ev, ← ep)
 
-    pub bare_label : (l ≡ 0 → ⊥) → bare step (fields 4 recs i) ≡ require false
-    unfolding bare ◌>>=◌ require
-    bare_label g = rw (h, fields_label, ne_eqb l 0 g)
-
-    module _ (ol : l ≡ 0) (v : ℕ) (ev : v ≡ word_at 8 recs (i + 8)) where
-      pub bare_value : (v ≡ 0 → ⊥) → bare step (fields 4 recs i) ≡ require false
-      unfolding bare ◌>>=◌ require
-      bare_value g = rw (h, fields_label, eq-eqb l 0 ol, fields_value v ev, ne_eqb v 0 g)
-
-      pub bare_place : v ≡ 0 → (p : ℕ) → p ≡ word_at 4 recs (i + 16) → bare step (fields 4 recs i) ≡ require (eqb p 0)
-      unfolding bare ◌>>=◌ require
-      bare_place ov p ep = rw (h, fields_label, eq-eqb l 0 ol, fields_value v ev, eq-eqb v 0 ov, fields_place p ep)
+  pub bare_is : (t : Bool) (l v p : ℕ) → plain step (fields 4 recs i) ≡ require t → l ≡ word_at 2 recs (i + 4) → v ≡ word_at 8 recs (i + 8) → p ≡ word_at 4 recs (i + 16)
+      → bare step (fields 4 recs i) ≡ require ((t && (eqb l 0 && eqb v 0)) && eqb p 0)
+  bare_is t l v p e el ev ep = bare_of (fields 4 recs i) t e ∙ same t l v p el ev ep
 
 module _ (recs : List ℕ) (i step : ℕ) (b : Bytes recs) where
   pub closes_cut : length recs < i + 20 → ClosesIs recs i step false

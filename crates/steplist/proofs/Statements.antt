@@ -1,5 +1,8 @@
 -- The rules by which what each function over statements answers follows from what its calls answered, one for each way through its code.
 -- Assumes nothing.
+use Rattle.std.specs.Prelude.{Option as RustOption, Some, None}
+use Rattle.layout.specs.declared.walk.Place.{Place}
+use Rattle.layout.proofs.Steps.{place}
 use Prim.Native.Nat.{ℕ, suc, ◌+◌, ◌≤◌, ◌<◌}
 use native.Mathlib.Omega.{arith}
 use native.Mathlib.Numerals.{add-one}
@@ -22,9 +25,6 @@ use Rattle.theorems.proofs.Laws.DecodeFree.{statement_body, statements_is, proto
 use Rattle.paper.specs.DecodeFrom.{statements_from, value_from, prototypes_from}
 use Rattle.memory.specs.Memory.{word_at}
 use Rattle.memory.proofs.Laws.{fit, word_in}
-use Rattle.texts.specs.declared.Past.TheVariants.{At, Bad}
-use Rattle.layout.specs.declared.walk.Walk.{Walk}
-use Rattle.layout.specs.declared.walk.Walk.TheVariants.{Walked, Wrong}
 use Rattle.forms.specs.Form.{fields}
 use Rattle.texts.specs.Text.{FieldIs}
 use Rattle.layout.specs.Walk.{WalkIs}
@@ -32,7 +32,7 @@ use Rattle.layout.proofs.Ends.{empty_yes}
 use Rattle.forms.proofs.Forms.{fields_in}
 use Rattle.layout.proofs.Heads.{and_true}
 use Rattle.layout.proofs.Steps.{onto}
-use Rattle.steplist.specs.Record.{StopsIs, opens_at, ClosesIs}
+use Rattle.steplist.specs.Record.{StopsIs, opens_at, ClosesIs, ClosedIs}
 use Rattle.steplist.specs.Walk.{WalkOn, statement_at, take_at, block_at, statements_here, statement_here, value_here, prototypes_here, take_here, prototype_here}
 
 assoc : {A B C : Type 0} (m : Option A) (f : A → Option B) (g : B → Option C) → (m >>= f) >>= g ≡ m >>= λ x. f x >>= g
@@ -75,18 +75,18 @@ module _ (recs text : List ℕ) (d i p : ℕ) (b : Bytes recs) where
       unfolding statement_at ◌>>=◌ require
       statement_open = rw (record_here 4 recs text i p b h, place_is, lt-ltb s 32768 (omega arith), label_is)
 
-      pub statement_no : FieldIs path_of text m p Bad → statement_here recs text d i p ≡ none
+      pub statement_no : FieldIs path_of text m p None → statement_here recs text d i p ≡ none
       unfolding ◌>>=◌
       statement_no F = statement_open ∙ rw (F recs (i + 20))
 
-      pub statement_value : (q : ℕ) → FieldIs path_of text m p (At q) → (r : Walk) → WalkIs (value_here recs text d i q) recs text r → WalkOn (statement_here recs text d i p) recs text i r
+      pub statement_value : (q : ℕ) → FieldIs path_of text m p (Some q) → (r : RustOption Place) → WalkIs (value_here recs text d i q) recs text r → WalkOn (statement_here recs text d i p) recs text i r
       unfolding ◌>>=◌
-      statement_value q F (Walked j t) w =
+      statement_value q F (Some at) w =
           let P = F recs (i + 20) in (
             (assign P.0 w.0, statement_open ∙ rw (P.1, w.1)),
-            further recs text (i + 20) j q t h (value_left d (raw_at 4 recs i) (cursor recs text (i + 20) q) w.0 (cursor recs text j t) w.1),
+            further recs text (i + 20) at.record q at.text h (value_left d (raw_at 4 recs i) (cursor recs text (i + 20) q) w.0 (cursor recs text at.record at.text) w.1),
           )
-      statement_value q F Wrong w = let P = F recs (i + 20) in statement_open ∙ rw (P.1, w)
+      statement_value q F None w = let P = F recs (i + 20) in statement_open ∙ rw (P.1, w)
 
 -- ---- statements
 
@@ -104,7 +104,7 @@ chain d at =
     assoc (field path_of x.0.label x.1) _ _ ∙ under (field path_of x.0.label x.1) (λ r. assoc (value_from d x.0 r.1) _ _)))
 
 module _ (recs text : List ℕ) (d i p : ℕ) where
-  pub statements_stop : StopsIs recs i true → WalkIs (statements_here recs text d i p) recs text (Walked i p)
+  pub statements_stop : StopsIs recs i true → WalkIs (statements_here recs text d i p) recs text (Some (place i p))
   unfolding statement_body when◌then◌else◌
   statements_stop S = let e = S text p in (εᴮ, statements_is d (cursor recs text i p) ∙ rw (← e))
 
@@ -116,7 +116,7 @@ module _ (recs text : List ℕ) (d i p : ℕ) where
     unfolding ◌>>=◌
     statements_no e = statements_open ∙ rw e
 
-    pub statements_more : (j q : ℕ) (r : Walk) → WalkOn (statement_here recs text d i p) recs text i (Walked j q) → WalkIs (statements_here recs text d j q) recs text r → WalkIs (statements_here recs text d i p) recs text r
+    pub statements_more : (j q : ℕ) (r : RustOption Place) → WalkOn (statement_here recs text d i p) recs text i (Some (place j q)) → WalkIs (statements_here recs text d j q) recs text r → WalkIs (statements_here recs text d i p) recs text r
     unfolding ◌>>=◌
     statements_more j q r w t = rw (statements_open, w.0.1) (onto recs text _ (w.0.0 ∷ᴮ◌) r t)
 
@@ -138,7 +138,7 @@ module _ (recs text : List ℕ) (d i p : ℕ) (b : Bytes recs) (h : i + 20 ≤ l
   step_is : word 2 recs i ≡ s
   step_is = sym (es ∙ word_in 2 recs i (omega arith))
 
-  pub prototype_take : s ≡ 2 → (r : Walk) → WalkOn (take_here recs text i p) recs text i r → WalkOn (prototype_here recs text d i p) recs text i r
+  pub prototype_take : s ≡ 2 → (r : RustOption Place) → WalkOn (take_here recs text i p) recs text i r → WalkOn (prototype_here recs text d i p) recs text i r
   unfolding prototype_here when◌then◌else◌
   prototype_take e r w = rw (step_is, e) w
 
@@ -168,17 +168,21 @@ module _ (recs text : List ℕ) (d i p : ℕ) (b : Bytes recs) (h : i + 20 ≤ l
         unfolding ◌>>=◌
         block_no e = block_open ∙ rw e
 
-        module _ (j q : ℕ) (w : WalkIs (statements_here recs text (d + 1) (i + 20) p) recs text (Walked j q)) where
-          pub block_unclosed : ClosesIs recs j 4 false → prototype_here recs text d i p ≡ none
+        module _ (j q : ℕ) (w : WalkIs (statements_here recs text (d + 1) (i + 20) p) recs text (Some (place j q))) where
+          block_unclosed : ClosesIs recs j 4 false → prototype_here recs text d i p ≡ none
           unfolding ◌>>=◌ require
           block_unclosed C = let c = C text q in block_open ∙ rw (w.1, c)
 
-          pub block_closed : ClosesIs recs j 4 true → WalkOn (prototype_here recs text d i p) recs text i (Walked (j + 20) q)
+          block_closed : ClosesIs recs j 4 true → WalkOn (prototype_here recs text d i p) recs text i (Some (place (j + 20) q))
           unfolding ◌>>=◌ require
           block_closed C =
               let c = C text q in
               let m = further recs text (i + 20) j p q h (statements_left (d + 1) (cursor recs text (i + 20) p) w.0 (cursor recs text j q) w.1) in
               ((block w.0, block_open ∙ rw (w.1, c)), omega arith)
+
+          pub block_end : (r : RustOption Place) → ClosedIs recs (place j q) 4 r → WalkOn (prototype_here recs text d i p) recs text i r
+          block_end (Some past) C = rw (C.1, C.2) (block_closed C.0)
+          block_end None C = block_unclosed C
 
 -- ---- prototypes
 
@@ -225,7 +229,7 @@ module _ (recs text : List ℕ) (d i p : ℕ) (b : Bytes recs) where
     unfolding ◌>>=◌
     prototypes_no e = prototypes_open ∙ rw e
 
-    pub prototypes_more : (j q : ℕ) (r : Walk) → WalkOn (prototype_here recs text d i p) recs text i (Walked j q) → WalkIs (prototypes_here recs text d j q) recs text r → WalkIs (prototypes_here recs text d i p) recs text r
+    pub prototypes_more : (j q : ℕ) (r : RustOption Place) → WalkOn (prototype_here recs text d i p) recs text i (Some (place j q)) → WalkIs (prototypes_here recs text d j q) recs text r → WalkIs (prototypes_here recs text d i p) recs text r
     unfolding ◌>>=◌
     prototypes_more j q r w t = rw (prototypes_open, w.0.1) (onto recs text _ w.0.0 r t)
 
@@ -252,13 +256,17 @@ module _ (recs text : List ℕ) (d i p : ℕ) (b : Bytes recs) where
     shut : prototypes_here recs text d i p ≡ closing
     shut = prototypes_is d at ∙ ⊎_elim inside outside (fit (i + 20) (length recs))
 
-    pub prototypes_unclosed : ClosesIs recs i 5 false → prototypes_here recs text d i p ≡ none
+    prototypes_unclosed : ClosesIs recs i 5 false → prototypes_here recs text d i p ≡ none
     unfolding ◌>>=◌ require
     prototypes_unclosed C = let c = C text p in shut ∙ rw c
 
-    pub prototypes_done : ClosesIs recs i 5 true → WalkIs (prototypes_here recs text d i p) recs text (Walked (i + 20) p)
+    prototypes_done : ClosesIs recs i 5 true → WalkIs (prototypes_here recs text d i p) recs text (Some (place (i + 20) p))
     unfolding ◌>>=◌ require
     prototypes_done C = let c = C text p in (εᴾ, shut ∙ rw c)
+
+    pub prototypes_end : (r : RustOption Place) → ClosedIs recs (place i p) 5 r → WalkIs (prototypes_here recs text d i p) recs text r
+    prototypes_end (Some past) C = rw (C.1, C.2) (prototypes_done C.0)
+    prototypes_end None C = prototypes_unclosed C
 
 -- where statements go on, records are left
 pub stopped : (recs : List ℕ) (i : ℕ) → StopsIs recs i false → i < length recs

@@ -1,14 +1,17 @@
 -- The values of statements and the prototypes that are references: the paper's readers, one law for each way through the code.
 -- Assumes nothing.
+use Rattle.std.specs.Prelude.{Option as RustOption, Some, None}
+use Rattle.layout.specs.declared.walk.Place.{Place}
+use Rattle.layout.proofs.Steps.{place}
 use Prim.Native.Nat.{ℕ, suc, ◌+◌, ◌≤◌, ◌<◌}
 use native.Mathlib.Omega.{arith}
 use native.Mathlib.Nat.{le_refl}
 use mathlib.Core.Path.{◌≡◌, refl, sym, ◌∙◌, ap}
 use mathlib.Core.Bool.{Bool, true, false}
-use mathlib.Core.List.{List}
+use mathlib.Core.List.{List, [], ◌∷◌}
 use mathlib.Core.Logic.{◌⊎◌, inl, inr, ⊎_elim}
 use mathlib.Core.Option.{Option, none, some}
-use lib.ListN.{length}
+use lib.ListN.{length, get_or}
 use lib.Dec.{eqb}
 use borrow.Author.Tests.{le-leb, lt-leb, eq-eqb, ne_eqb}
 use Rattle.paper.specs.Bytes.{when◌then◌else◌}
@@ -25,15 +28,17 @@ use Rattle.paper.specs.DecodeFrom.{statements_from, prototypes_from}
 use Rattle.memory.specs.Memory.{word_at}
 use Rattle.memory.proofs.Laws.{fit, word_in}
 use Rattle.forms.specs.declared.form.Form.TheVariants.{Steps}
-use Rattle.texts.specs.declared.Past.TheVariants.{At, Bad}
-use Rattle.layout.specs.declared.walk.Walk.{Walk}
-use Rattle.layout.specs.declared.walk.Walk.TheVariants.{Walked, Wrong}
 use Rattle.forms.specs.Form.{form_of, size_of, fields}
 use Rattle.texts.specs.Text.{FieldIs}
 use Rattle.layout.specs.Walk.{WalkIs, basic_here}
 use Rattle.forms.proofs.Forms.{fields_in}
 use Rattle.layout.proofs.Heads.{basic_inside}
 use Rattle.layout.proofs.Steps.{onto}
+use Rattle.kinds.specs.declared.Step.{Step}
+use Rattle.kinds.specs.declared.Step.TheVariants.{Make, Take, Enter, Leave, Done, Set, Item, Link}
+use Rattle.kinds.specs.Numbers.{step_number}
+use Rattle.kinds.proofs.One.{step_one}
+use Rattle.steplist.proofs.Records.{plain_step}
 use Rattle.steplist.specs.Walk.{WalkOn, value_here, prototypes_here, take_at, take_here}
 
 -- ---- whether the first of prototypes is a done
@@ -43,8 +48,8 @@ unfolding ◌>>=◌
 any none f h = nothing
 any (some x) f h = h x
 
-abbrev Some : Prototypes × Cursor → Type 0
-Some y = some_prototype y.0 ≡ true
+abbrev Begins : Prototypes × Cursor → Type 0
+Begins y = some_prototype y.0 ≡ true
 
 module _ (recs text : List ℕ) (d j p : ℕ) (b : Bytes recs) (t : ℕ) (e : t ≡ word_at 2 recs j) where
   -- a done: no prototype is found, or none at all
@@ -65,7 +70,7 @@ module _ (recs text : List ℕ) (d j p : ℕ) (b : Bytes recs) (t : ℕ) (e : t 
       either (some u) q = inr (cursor recs text (j + 20) p, q)
 
   module _ (f : t ≡ 5 → ⊥) where
-    outside : length recs < j + 20 → Found Some (prototype_body statements_from prototypes_from d (cursor recs text j p))
+    outside : length recs < j + 20 → Found Begins (prototype_body statements_from prototypes_from d (cursor recs text j p))
     unfolding prototype_body ◌>>=◌
     outside w = rw (record_short 4 recs text j p b w) nothing
 
@@ -77,20 +82,20 @@ module _ (recs text : List ℕ) (d j p : ℕ) (b : Bytes recs) (t : ℕ) (e : t 
     unfolding raw_at
     first_is w = sym (e ∙ word_in 2 recs j (omega arith))
 
-    body : (x : Raw) (at : Cursor) → (x.first ≡ 5 → ⊥) → record_at 4 (cursor recs text j p) ≡ some (x, at) → Found Some (prototype_body statements_from prototypes_from d (cursor recs text j p))
+    body : (x : Raw) (at : Cursor) → (x.first ≡ 5 → ⊥) → record_at 4 (cursor recs text j p) ≡ some (x, at) → Found Begins (prototype_body statements_from prototypes_from d (cursor recs text j p))
     unfolding prototype_body ◌>>=◌ some_prototype
     body x at h q =
-        rw q (if_case (Found Some) _ _ _
+        rw q (if_case (Found Begins) _ _ _
         (λ _. any (plain 2 x) _ (λ _. any (require _) _ (λ _. any (field path_of x.label at) _ (λ l. any (prototypes_from d l.1) _ (λ ps. found refl)))))
-        (λ _. if_case (Found Some) _ _ _
+        (λ _. if_case (Found Begins) _ _ _
         (λ _. any (bare 3 x) _ (λ _. any (require _) _ (λ _. any (statements_from (suc d) at) _ (λ b. any (record_at 4 b.1) _ (λ y. any (bare 4 y.0) _ (λ _. any (prototypes_from d y.1) _ (λ ps. found refl)))))))
         (λ _. rw (no_done x h) nothing)))
 
-    inside : j + 20 ≤ length recs → Found Some (prototypes_from d (cursor recs text j p))
+    inside : j + 20 ≤ length recs → Found Begins (prototypes_from d (cursor recs text j p))
     inside w = rw (prototypes_is d (cursor recs text j p)) (body (raw_at 4 recs j) (cursor recs text (j + 20) p) (λ z. f (sym (first_is w) ∙ z)) (record_here 4 recs text j p b w))
 
     -- no done: what is found begins with a prototype
-    pub some_first : Found Some (prototypes_from d (cursor recs text j p))
+    pub some_first : Found Begins (prototypes_from d (cursor recs text j p))
     some_first = ⊎_elim inside (λ w. rw (prototypes_is d (cursor recs text j p)) (outside w)) (fit (j + 20) (length recs))
 
 -- ---- values
@@ -109,7 +114,7 @@ module _ (recs text : List ℕ) (d i p : ℕ) (h : i + 20 ≤ length recs) where
     unfolding value_body raw_at when◌then◌else◌ ◌>>=◌ require
     set_none l = value_is d (raw_at 4 recs i) (cursor recs text (i + 20) p) ∙ rw (e, span_is, lt-leb 1 s l)
 
-    pub set_basic : (r : Walk) → 1 ≤ s → WalkIs (basic_here Steps recs text d s i p) recs text r → WalkIs (value_here recs text d i p) recs text r
+    pub set_basic : (r : RustOption Place) → 1 ≤ s → WalkIs (basic_here Steps recs text d s i p) recs text r → WalkIs (value_here recs text d i p) recs text r
     unfolding value_body raw_at size_of form_of in_steps when◌then◌else◌ ◌>>=◌ require
     set_basic r l w =
         let q = basic_inside Steps recs text i p b d s h in
@@ -136,11 +141,11 @@ module _ (recs text : List ℕ) (d i p : ℕ) (h : i + 20 ≤ length recs) where
       unfolding raw_at
       value_v = sym (f ∙ word_in 8 recs (i + 8) (omega arith))
 
-      pub link_no : FieldIs path_of text v p Bad → value_here recs text d i p ≡ none
+      pub link_no : FieldIs path_of text v p None → value_here recs text d i p ≡ none
       unfolding value_body when◌then◌else◌ ◌>>=◌ require
       link_no F = value_is d (raw_at 4 recs i) (cursor recs text (i + 20) p) ∙ rw (not_set, is_link, plain_is 8 true g, value_v, F recs (i + 20))
 
-      pub link_path : (q : ℕ) → FieldIs path_of text v p (At q) → WalkIs (value_here recs text d i p) recs text (Walked (i + 20) q)
+      pub link_path : (q : ℕ) → FieldIs path_of text v p (Some q) → WalkIs (value_here recs text d i p) recs text (Some (place (i + 20) q))
       unfolding value_body when◌then◌else◌ ◌>>=◌ require
       link_path q F =
           let P = F recs (i + 20) in
@@ -166,11 +171,11 @@ module _ (recs text : List ℕ) (d i p : ℕ) (h : i + 20 ≤ length recs) where
       unfolding raw_at
       label_l = sym (k ∙ word_in 2 recs (i + 4) (omega arith))
 
-      pub take_no : FieldIs path_of text l p Bad → take_here recs text i p ≡ none
+      pub take_no : FieldIs path_of text l p None → take_here recs text i p ≡ none
       unfolding take_at ◌>>=◌ require
       take_no F = rw (plain_is 2 true g, value_t, eq-eqb v 0 z, label_l, F recs (i + 20))
 
-      pub take_path : (q : ℕ) → FieldIs path_of text l p (At q) → WalkOn (take_here recs text i p) recs text i (Walked (i + 20) q)
+      pub take_path : (q : ℕ) → FieldIs path_of text l p (Some q) → WalkOn (take_here recs text i p) recs text i (Some (place (i + 20) q))
       unfolding take_at ◌>>=◌ require
       take_path q F =
           let P = F recs (i + 20) in
@@ -194,6 +199,9 @@ module _ (recs text : List ℕ) (d i p : ℕ) (h : i + 20 ≤ length recs) where
     unfolding value_body when◌then◌else◌ ◌>>=◌ require
     make_marred g = value_is d (raw_at 4 recs i) (cursor recs text (i + 20) p) ∙ rw (no_set, no_link, plain_is 1 false g)
 
+    pub no_value : (s ≡ 1 → ⊥) → value_here recs text d i p ≡ none
+    no_value n₁ = make_marred (plain_step recs i 1 s es n₁)
+
     module _ (g : plain 1 (fields 4 recs i) ≡ require true) (v : ℕ) (f : v ≡ word_at 8 recs (i + 8)) where
       value_m : (raw_at 4 recs i).value ≡ v
       unfolding raw_at
@@ -212,9 +220,9 @@ module _ (recs text : List ℕ) (d i p : ℕ) (h : i + 20 ≤ length recs) where
         unfolding ◌>>=◌ require some_prototype
         make_done b t e f = make_open ∙ ⊎_elim (λ q. rw q) (λ q. rw q.1) (none_first recs text d (i + 20) p b t e f)
 
-        pub make_prototypes : Bytes recs → (t : ℕ) → t ≡ word_at 2 recs (i + 20) → (t ≡ 5 → ⊥) → (r : Walk) → WalkIs (prototypes_here recs text d (i + 20) p) recs text r → WalkIs (value_here recs text d i p) recs text r
+        pub make_prototypes : Bytes recs → (t : ℕ) → t ≡ word_at 2 recs (i + 20) → (t ≡ 5 → ⊥) → (r : RustOption Place) → WalkIs (prototypes_here recs text d (i + 20) p) recs text r → WalkIs (value_here recs text d i p) recs text r
         unfolding ◌>>=◌ require
-        make_prototypes b t e f (Walked j q) w =
+        make_prototypes b t e f (Some at) w =
             let o : some_prototype w.0 ≡ true = found_some (some_first recs text d (i + 20) p b t e f) w.1 in
             (extends (raw_at 4 recs i).place w.0, make_open ∙ rw (w.1, o))
-        make_prototypes b t e f Wrong w = make_open ∙ rw w
+        make_prototypes b t e f None w = make_open ∙ rw w

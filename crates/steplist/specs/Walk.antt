@@ -8,13 +8,13 @@ use Rattle.paper.specs.Decoder.{Cursor, Raw, record_at, field, path_of}
 use Rattle.paper.specs.StepDecoder.{plain, bare}
 use Rattle.paper.specs.DecodeAt.{word, raw_at, cursor}
 use Rattle.paper.specs.DecodeFrom.{statements_from, value_from, prototypes_from}
-use Rattle.layout.specs.declared.walk.Walk.{Walk}
-use Rattle.layout.specs.declared.walk.Walk.TheVariants.{Walked, Wrong}
+use Rattle.std.specs.Prelude.{Option as RustOption, Some, None}
+use Rattle.layout.specs.declared.walk.Place.{Place}
 
 -- a reader found something, and has gone on by a record at least
-abbrev pub WalkOn : {A : Type 0} → Option (A × Cursor) → List ℕ → List ℕ → ℕ → Walk → Type 0
-WalkOn {A} o recs text i (Walked j q) = ((a : A) × (o ≡ some (a, cursor recs text j q))) × (i + 20 ≤ j)
-WalkOn o recs text i Wrong = o ≡ none
+abbrev pub WalkOn : {A : Type 0} → Option (A × Cursor) → List ℕ → List ℕ → ℕ → RustOption Place → Type 0
+WalkOn {A} o recs text i (Some at) = ((a : A) × (o ≡ some (a, cursor recs text at.record at.text))) × (i + 20 ≤ at.record)
+WalkOn o recs text i None = o ≡ none
 
 -- one statement
 unfoldable pub statement_at : ℕ → Cursor → Option (Statement × Cursor)

@@ -1,57 +1,61 @@
 // The parts of statements that hold no statements: a set's basic, a link's path, a prototype that is a reference.
-ghost use Rattle.std.specs.Prelude.{◌≡◌, ◌+◌, ◌≤◌, length};
+ghost use Rattle.std.specs.Prelude.{◌≡◌};
 ghost use Rattle.paper.specs.DecodeAt.{word};
 ghost use Rattle.layout.specs.Walk.{WalkIs};
 ghost use Rattle.steplist.specs.Walk.{WalkOn, value_here, take_here};
 
-use crate::record::plain;
+use crate::record::{Record, plain};
 use fields::{label_at, span_at, value_at};
-use forms::Form;
-use layout::{Walk, basic};
-use texts::{Past, path_here};
+use forms::{Form, STEP_RECORD};
+use kinds::Step;
+use layout::{Place, basic};
+use texts::path_here;
 
-pub(crate) fn set(recs: &[u8], text: &[u8], depth: usize, i: usize, p: usize) -> Walk
-    requires { (i + 20 ≤ length recs.now) × (word 2 recs.now i ≡ 6) }
-    ensures { WalkIs (value_here recs.now text.now depth i p) recs.now text.now result }
+pub(crate) fn set(here: Record, depth: usize) -> Option<Place>
+    requires { word 2 here.body.records.now here.at.record ≡ 6 }
+    ensures { WalkIs
+        (value_here here.entry.body.records.now here.entry.body.text.now depth here.entry.at.record here.entry.at.text)
+        here.entry.body.records.now here.entry.body.text.now result }
 {
-    let span = span_at(recs, i);
-    if span < 1 {
-        return Walk::Wrong;
+    let Record { body, at } = here;
+    let span = span_at(body.records, at.record);
+    if span == 0 {
+        return None;
     }
-    basic(Form::Steps, recs, text, depth, span, i, p)
+    basic(Form::Steps, body, depth, span, at)
 }
 
-pub(crate) fn link(recs: &[u8], text: &[u8], depth: usize, i: usize, p: usize) -> Walk
-    requires { (i + 20 ≤ length recs.now) × (word 2 recs.now i ≡ 8) }
-    ensures { WalkIs (value_here recs.now text.now depth i p) recs.now text.now result }
+pub(crate) fn link(here: Record, depth: usize) -> Option<Place>
+    requires { word 2 here.body.records.now here.at.record ≡ 8 }
+    ensures { WalkIs
+        (value_here here.entry.body.records.now here.entry.body.text.now depth here.entry.at.record here.entry.at.text)
+        here.entry.body.records.now here.entry.body.text.now result }
 {
-    if !plain(recs, i, 8) {
-        return Walk::Wrong;
+    let Record { body, at } = here;
+    if !plain(body.records, at.record, Step::Link) {
+        return None;
     }
-    match path_here(text, value_at(recs, i) as usize, p) {
-        Past::At(q) => Walk::Walked {
-            record: i + 20,
-            text: q,
-        },
-        Past::Bad => Walk::Wrong,
-    }
+    let place = value_at(body.records, at.record) as usize;
+    let text = path_here(body.text, place, at.text)?;
+    Some(Place {
+        record: at.record + STEP_RECORD,
+        text,
+    })
 }
 
-pub(crate) fn take(recs: &[u8], text: &[u8], i: usize, p: usize) -> Walk
-    requires { i + 20 ≤ length recs.now }
-    ensures { WalkOn (take_here recs.now text.now i p) recs.now text.now i result }
+pub(crate) fn take(here: Record) -> Option<Place>
+    ensures { WalkOn
+        (take_here here.entry.body.records.now here.entry.body.text.now here.entry.at.record here.entry.at.text)
+        here.entry.body.records.now here.entry.body.text.now here.entry.at.record result }
 {
-    if !plain(recs, i, 2) {
-        return Walk::Wrong;
+    let Record { body, at } = here;
+    if !plain(body.records, at.record, Step::Take) || value_at(body.records, at.record) != 0 {
+        return None;
     }
-    if value_at(recs, i) != 0 {
-        return Walk::Wrong;
-    }
-    match path_here(text, label_at(recs, i), p) {
-        Past::At(q) => Walk::Walked {
-            record: i + 20,
-            text: q,
-        },
-        Past::Bad => Walk::Wrong,
-    }
+    let place = label_at(body.records, at.record);
+    let text = path_here(body.text, place, at.text)?;
+    Some(Place {
+        record: at.record + STEP_RECORD,
+        text,
+    })
 }

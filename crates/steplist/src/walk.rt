@@ -1,141 +1,121 @@
 // Statements, and the prototypes that hold them: where their records end, if they are as they should be.
-ghost use Rattle.std.specs.Prelude.{◌≡◌, ◌+◌, ◌≤◌, length};
+ghost use Rattle.std.specs.Prelude.{◌≡◌};
 ghost use Rattle.paper.specs.DecodeAt.{word};
 ghost use Rattle.layout.specs.Walk.{WalkIs};
-ghost use Rattle.steplist.specs.Walk.{WalkOn, statements_here, statement_here, value_here, prototypes_here, prototype_here};
+ghost use Rattle.steplist.specs.Walk.{WalkOn, statements_here, statement_here, value_here};
+ghost use Rattle.steplist.specs.Walk.{prototypes_here, prototype_here};
 
-use crate::record::{bare, closes, opens, plain, stops};
+use crate::record::{Record, SOURCE, bare, closed, opens, plain, stops};
 use crate::statement::{link, set, take};
 use fields::{label_at, place_at, step_at, value_at};
-use layout::Walk;
+use forms::STEP_RECORD;
+use kinds::Step;
+use layout::{Body, Place};
 use memory::fits;
-use texts::{Past, path_here};
-
-const DONE: usize = 5;
+use texts::path_here;
 
 // So many blocks and vectors may be open around one that is opened.
 const AROUND: usize = 31;
 
 // Statements, up to a leave or to the end of the records; so many blocks and vectors are open.
-#[cycle(prototype_prototypes_statement_statements_value)]
-pub(crate) fn statements(recs: &[u8], text: &[u8], depth: usize, first: usize, from: usize) -> Walk
-    ensures { WalkIs (statements_here recs.now text.now depth first from) recs.now text.now result }
+#[cycle(statements)]
+pub(crate) fn statements(body: Body, depth: usize, first: Place) -> Option<Place>
+    ensures { WalkIs (statements_here body.entry.records.now body.entry.text.now depth first.record first.text)
+        body.entry.records.now body.entry.text.now result }
 {
-    let mut i = first;
-    let mut p = from;
-    while !stops(recs, i) {
-        match statement(recs, text, depth, i, p) {
-            Walk::Walked {
-                record: next,
-                text: q,
-            } => {
-                i = next;
-                p = q;
-            }
-            Walk::Wrong => {
-                return Walk::Wrong;
-            }
-        }
+    let mut at = first;
+    while !stops(body.records, at.record) {
+        at = statement(body, depth, at)?;
     }
-    Walk::Walked { record: i, text: p }
+    Some(at)
 }
 
-#[cycle(prototype_prototypes_statement_statements_value)]
-fn statement(recs: &[u8], text: &[u8], depth: usize, i: usize, p: usize) -> Walk
-    ensures { WalkOn (statement_here recs.now text.now depth i p) recs.now text.now i result }
+#[cycle(statements)]
+fn statement(body: Body, depth: usize, at: Place) -> Option<Place>
+    ensures { WalkOn (statement_here body.entry.records.now body.entry.text.now depth at.record at.text)
+        body.entry.records.now body.entry.text.now at.record result }
 {
-    if !fits(recs.len(), i, 20) {
-        return Walk::Wrong;
+    if !fits(body.records.len(), at.record, STEP_RECORD)
+        || SOURCE <= place_at(body.records, at.record)
+    {
+        return None;
     }
-    if 32767 < place_at(recs, i) {
-        return Walk::Wrong;
-    }
-    match path_here(text, label_at(recs, i), p) {
-        Past::At(q) => value(recs, text, depth, i, q),
-        Past::Bad => Walk::Wrong,
+    let text = path_here(body.text, label_at(body.records, at.record), at.text)?;
+    let at = Place { text, ..at };
+    value(Record { body, at }, depth)
+}
+
+#[cycle(statements)]
+fn value(here: Record, depth: usize) -> Option<Place>
+    ensures { WalkIs
+        (value_here here.entry.body.records.now here.entry.body.text.now depth here.entry.at.record here.entry.at.text)
+        here.entry.body.records.now here.entry.body.text.now result }
+{
+    let Ok(step) = Step::try_from(step_at(here.body.records, here.at.record)) else {
+        return None;
+    };
+    match step {
+        Step::Set => set(here, depth),
+        Step::Link => link(here, depth),
+        Step::Make => make(here, depth),
+        _ => None,
     }
 }
 
-#[cycle(prototype_prototypes_statement_statements_value)]
-fn value(recs: &[u8], text: &[u8], depth: usize, i: usize, p: usize) -> Walk
-    requires { i + 20 ≤ length recs.now }
-    ensures { WalkIs (value_here recs.now text.now depth i p) recs.now text.now result }
+// A make, and its prototypes, of which there is one at least.
+#[cycle(statements)]
+fn make(here: Record, depth: usize) -> Option<Place>
+    requires { word 2 here.body.records.now here.at.record ≡ 1 }
+    ensures { WalkIs
+        (value_here here.entry.body.records.now here.entry.body.text.now depth here.entry.at.record here.entry.at.text)
+        here.entry.body.records.now here.entry.body.text.now result }
 {
-    let step = step_at(recs, i);
-    if step == 6 {
-        return set(recs, text, depth, i, p);
+    let Record { body, at } = here;
+    if !plain(body.records, at.record, Step::Make) || value_at(body.records, at.record) != 0 {
+        return None;
     }
-    if step == 8 {
-        return link(recs, text, depth, i, p);
+    let first = Place {
+        record: at.record + STEP_RECORD,
+        ..at
+    };
+    if step_at(body.records, first.record) == Step::Done.number() {
+        return None;
     }
-    if !plain(recs, i, 1) {
-        return Walk::Wrong;
-    }
-    if value_at(recs, i) != 0 {
-        return Walk::Wrong;
-    }
-    let first = i + 20;
-    if step_at(recs, first) == DONE {
-        return Walk::Wrong;
-    }
-    prototypes(recs, text, depth, first, p)
+    prototypes(body, depth, first)
 }
 
 // Prototypes, and the done that closes them.
-#[cycle(prototype_prototypes_statement_statements_value)]
-fn prototypes(recs: &[u8], text: &[u8], depth: usize, first: usize, from: usize) -> Walk
-    ensures { WalkIs (prototypes_here recs.now text.now depth first from) recs.now text.now result }
+#[cycle(statements)]
+fn prototypes(body: Body, depth: usize, first: Place) -> Option<Place>
+    ensures { WalkIs (prototypes_here body.entry.records.now body.entry.text.now depth first.record first.text)
+        body.entry.records.now body.entry.text.now result }
 {
-    let mut i = first;
-    let mut p = from;
-    while opens(recs, i) {
-        match prototype(recs, text, depth, i, p) {
-            Walk::Walked {
-                record: next,
-                text: q,
-            } => {
-                i = next;
-                p = q;
-            }
-            Walk::Wrong => {
-                return Walk::Wrong;
-            }
-        }
+    let mut at = first;
+    while opens(body.records, at.record) {
+        at = prototype(Record { body, at }, depth)?;
     }
-    if !closes(recs, i, 5) {
-        return Walk::Wrong;
-    }
-    Walk::Walked {
-        record: i + 20,
-        text: p,
-    }
+    closed(body.records, at, Step::Done)
 }
 
 // One prototype: a reference, or a block with its enter and its leave.
-#[cycle(prototype_prototypes_statement_statements_value)]
-fn prototype(recs: &[u8], text: &[u8], depth: usize, i: usize, p: usize) -> Walk
-    requires { i + 20 ≤ length recs.now }
-    ensures { WalkOn (prototype_here recs.now text.now depth i p) recs.now text.now i result }
+#[cycle(statements)]
+fn prototype(here: Record, depth: usize) -> Option<Place>
+    ensures { WalkOn
+        (prototype_here here.entry.body.records.now here.entry.body.text.now depth here.entry.at.record
+        here.entry.at.text)
+        here.entry.body.records.now here.entry.body.text.now here.entry.at.record result }
 {
-    if step_at(recs, i) == 2 {
-        return take(recs, text, i, p);
+    let Record { body, at } = here;
+    if step_at(body.records, at.record) == Step::Take.number() {
+        return take(here);
     }
-    if !bare(recs, i, 3) {
-        return Walk::Wrong;
+    if !bare(body.records, at.record, Step::Enter) || AROUND < depth {
+        return None;
     }
-    if AROUND < depth {
-        return Walk::Wrong;
-    }
-    match statements(recs, text, depth + 1, i + 20, p) {
-        Walk::Walked { record: j, text: q } => {
-            if !closes(recs, j, 4) {
-                return Walk::Wrong;
-            }
-            Walk::Walked {
-                record: j + 20,
-                text: q,
-            }
-        }
-        Walk::Wrong => Walk::Wrong,
-    }
+    let first = Place {
+        record: at.record + STEP_RECORD,
+        ..at
+    };
+    let end = statements(body, depth + 1, first)?;
+    closed(body.records, end, Step::Leave)
 }

@@ -3,28 +3,22 @@ ghost use Rattle.std.specs.Prelude.{◌≡◌};
 ghost use Rattle.steplist.specs.Whole.{whole_in, is_step_list_of};
 
 use crate::walk::statements;
-use forms::{Form, Size, count, records_of, text_of};
-use layout::Walk;
+use forms::{Form, count, records_of, text_of};
+use layout::{Body, Place};
 
-fn whole(recs: &[u8], text: &[u8]) -> bool
-    ensures { result ≡ whole_in recs.now text.now }
+fn whole(records: &[u8], text: &[u8]) -> bool
+    ensures { result ≡ whole_in records.now text.now }
 {
-    match statements(recs, text, 0, 0, 0) {
-        Walk::Walked { record: i, text: p } => {
-            if i < recs.len() {
-                return false;
-            }
-            text.len() <= p
-        }
-        Walk::Wrong => false,
-    }
+    let body = Body { records, text };
+    let start = Place { record: 0, text: 0 };
+    let Some(end) = statements(body, 0, start) else {
+        return false;
+    };
+    records.len() <= end.record && text.len() <= end.text
 }
 
 pub fn is_step_list(b: &[u8]) -> bool
     ensures { result ≡ is_step_list_of b.now }
 {
-    match count(Form::Steps, b) {
-        Size::Records(_) => whole(records_of(Form::Steps, b), text_of(b)),
-        Size::Unfit => false,
-    }
+    count(Form::Steps, b).is_some() && whole(records_of(Form::Steps, b), text_of(b))
 }

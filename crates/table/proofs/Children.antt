@@ -1,14 +1,16 @@
 -- The rules of a look among attributes, and of the test that no name stands twice, one for each way through the code. Assumes nothing.
+use Rattle.std.specs.Prelude.{Option as RustOption, Some, None, is_some}
 use Prim.Native.Nat.{ℕ, zero, suc, ◌+◌, ◌*◌, ◌-◌, ◌≤◌, ◌<◌}
 use native.Mathlib.Omega.{arith}
 use native.Mathlib.Nat.{le_refl}
-use native.Mathlib.Numerals.{add-one}
 use mathlib.Core.Path.{◌≡◌, refl, sym, ◌∙◌, ap}
-use mathlib.Core.Bool.{Bool, true, false, ◌&&◌}
+use mathlib.Core.Bool.{Bool, true, false, not, ◌&&◌}
 use mathlib.Core.List.{List, [], ◌∷◌}
+use mathlib.Core.Logic.{⊎_elim}
 use mathlib.Core.Option.{some}
-use lib.ListN.{length, drop, get_or, drop_of_length-le}
-use lib.Seq.{drop-cons}
+use Rattle.memory.proofs.Laws.{fit}
+use lib.ListN.{length}
+use lib.Pointwise.{pointwise}
 use lib.Dec.{leb, ltb, eqb}
 use borrow.Author.Tests.{ltb-true, ltb-false, leb-true, lt-ltb, le-ltb, le-leb, lt-leb, eq-eqb, ne_eqb}
 use Rattle.paper.specs.Bytes.{same, when◌then◌else◌}
@@ -22,37 +24,18 @@ use Rattle.paper.specs.DecodeAt.{word, raw_at, cursor}
 use Rattle.theorems.proofs.Laws.DecodeFree.{entries_none}
 use Rattle.paper.specs.DecodeFrom.{basic_from, entry_value}
 use Rattle.layout.proofs.Heads.{and_true}
-use Rattle.table.specs.declared.child.Found.{Found}
-use Rattle.table.specs.declared.child.Found.TheVariants.{At, Nothing}
 use Rattle.table.specs.Walk.{entries_here}
 use Rattle.table.specs.Child.{named_at, span_in, found_from, found_in, Spanned, SpanAt, Child, Holds, FoundIs, AloneIs, DistinctIs, DistinctInIs}
 use Rattle.table.proofs.Inside.{bind_some, some_is, Entry, entry_of}
 
 -- ---- two runs of bytes
 
-pub same_long : (a b : List ℕ) → (length a ≡ length b → ⊥) → same a b ≡ false
-same_long [] [] h = absurd (h refl)
-same_long [] (y ∷ b) h = refl
-same_long (x ∷ a) [] h = refl
-same_long (x ∷ a) (y ∷ b) h = rw (same_long a b (λ e. h (ap suc e))) (none (eqb x y))
-  where
-    none : (c : Bool) → (c && false) ≡ false
-    none true = refl
-    none false = refl
-
-module _ (a b : List ℕ) (i : ℕ) (e : length a ≡ length b) where
-  pub same_end : length a ≤ i → same (drop i a) (drop i b) ≡ true
-  same_end h = let g : length b ≤ i = omega arith in rw (drop_of_length-le a h, drop_of_length-le b g)
-
-  module _ (h : i < length a) where
-    open_both : same (drop i a) (drop i b) ≡ (eqb (get_or a i 0) (get_or b i 0) && same (drop (i + 1) a) (drop (i + 1) b))
-    open_both = rw (drop-cons a i 0 h, drop-cons b i 0 (omega arith), add-one i)
-
-    pub same_goes : get_or a i 0 ≡ get_or b i 0 → same (drop i a) (drop i b) ≡ same (drop (i + 1) a) (drop (i + 1) b)
-    same_goes g = open_both ∙ rw (eq-eqb (get_or a i 0) (get_or b i 0) g)
-
-    pub same_stops : (get_or a i 0 ≡ get_or b i 0 → ⊥) → same (drop i a) (drop i b) ≡ false
-    same_stops g = open_both ∙ rw (ne_eqb (get_or a i 0) (get_or b i 0) g)
+-- the test of slices is the paper's
+pub same_is : (a b : List ℕ) → pointwise eqb a b ≡ same a b
+same_is [] [] = refl
+same_is [] (y ∷ b) = refl
+same_is (x ∷ a) [] = refl
+same_is (x ∷ a) (y ∷ b) = ap (λ c. eqb x y && c) (same_is a b)
 
 -- ---- none are left
 
@@ -70,12 +53,12 @@ lookup_on : (s t : Store) (m n : List ℕ) (v : Value) → s ≡ entry m v t →
 unfolding lookup
 lookup_on s t m n v e h = rw (e, h, lookup)
 
-child_of : (recs text : List ℕ) (d : ℕ) (s t : Store) (after : Cursor) (name : List ℕ) (r : Found) → lookup s name ≡ lookup t name → Child recs text d t after name r → Child recs text d s after name r
-child_of recs text d s t after name (At j) e C =
+child_of : (recs text : List ℕ) (d : ℕ) (s t : Store) (after : Cursor) (name : List ℕ) (r : RustOption ℕ) → lookup s name ≡ lookup t name → Child recs text d t after name r → Child recs text d s after name r
+child_of recs text d s t after name (Some j) e C =
     record { what = C.what; looked = e ∙ C.looked; called = C.called; others = C.others; left = C.left; place = C.place; some_left = C.some_left; holds = C.holds }
-child_of recs text d s t after name Nothing e C = e ∙ C
+child_of recs text d s t after name None e C = e ∙ C
 
-pub find_end : (recs text : List ℕ) (i n : ℕ) (name : List ℕ) → n ≡ 0 → FoundIs recs text i n name Nothing
+pub find_end : (recs text : List ℕ) (i n : ℕ) (name : List ℕ) → n ≡ 0 → FoundIs recs text i n name None
 unfolding lookup
 find_end recs text i n name z = record { told = λ d p s after H. rw (no_more recs text i n d p s after z H) }
 
@@ -89,10 +72,10 @@ module _ (recs text : List ℕ) (i n : ℕ) (b : Bytes recs) (l : 0 < n) where
       let e = S.found E.span in
       omega (arith, E.span.some)
 
-  pub find_stuck : (name : List ℕ) (m : ℕ) → SpanAt recs i n m → m < 1 → FoundIs recs text i n name Nothing
+  pub find_stuck : (name : List ℕ) (m : ℕ) → SpanAt recs i n m → m < 1 → FoundIs recs text i n name None
   find_stuck name m S h = record { told = λ d p s after H. absurd (stuck m d p s after S h H) }
 
-  pub find_here : (name : List ℕ) → same (named_at recs text i) name ≡ true → FoundIs recs text i n name (At i)
+  pub find_here : (name : List ℕ) → same (named_at recs text i) name ≡ true → FoundIs recs text i n name (Some i)
   find_here name h =
       record {
         told = λ d p s after H.
@@ -101,7 +84,7 @@ module _ (recs text : List ℕ) (i n : ℕ) (b : Bytes recs) (l : 0 < n) where
       }
 
   module _ (m : ℕ) (S : Spanned recs i m n) where
-    pub find_more : (name : List ℕ) (r : Found) → same (named_at recs text i) name ≡ false → FoundIs recs text (i + 16 * m) (n - m) name r → FoundIs recs text i n name r
+    pub find_more : (name : List ℕ) (r : RustOption ℕ) → same (named_at recs text i) name ≡ false → FoundIs recs text (i + 16 * m) (n - m) name r → FoundIs recs text i n name r
     find_more name r h F =
         record {
           told = λ d p s after H.
@@ -115,13 +98,19 @@ pub distinct_end : (recs text : List ℕ) (i n : ℕ) → n ≡ 0 → DistinctIs
 unfolding distinct
 distinct_end recs text i n z = record { told = λ d p s after H. rw (no_more recs text i n d p s after z H) }
 
-pub alone_no : (recs text : List ℕ) (i m n j : ℕ) → FoundIs recs text (i + 16 * m) (n - m) (named_at recs text i) (At j) → AloneIs recs text i m n false
+alone_no : (recs text : List ℕ) (i m n j : ℕ) → FoundIs recs text (i + 16 * m) (n - m) (named_at recs text i) (Some j) → AloneIs recs text i m n false
 unfolding absent
 alone_no recs text i m n j F = record { told = λ d p s after H. rw (F.told d p s after H).looked }
 
-pub alone_yes : (recs text : List ℕ) (i m n : ℕ) → FoundIs recs text (i + 16 * m) (n - m) (named_at recs text i) Nothing → AloneIs recs text i m n true
+alone_yes : (recs text : List ℕ) (i m n : ℕ) → FoundIs recs text (i + 16 * m) (n - m) (named_at recs text i) None → AloneIs recs text i m n true
 unfolding absent
 alone_yes recs text i m n F = record { told = λ d p s after H. rw (F.told d p s after H) }
+
+pub alone_is : (recs text : List ℕ) (i m n : ℕ) (r : RustOption ℕ) (t : Bool) → is_some r ≡ not t → FoundIs recs text (i + 16 * m) (n - m) (named_at recs text i) r → AloneIs recs text i m n t
+alone_is recs text i m n (Some j) true e F = cc
+alone_is recs text i m n (Some j) false e F = alone_no recs text i m n j F
+alone_is recs text i m n None true e F = alone_yes recs text i m n F
+alone_is recs text i m n None false e F = cc
 
 module _ (recs text : List ℕ) (i n : ℕ) (b : Bytes recs) (l : 0 < n) where
   pub distinct_stuck : (m : ℕ) → SpanAt recs i n m → m < 1 → DistinctIs recs text i n false
@@ -215,6 +204,29 @@ module _ (recs : List ℕ) (i left : ℕ) where
   unfolding span_in when◌then◌else◌
   span_long a b c = rw (le-leb (i + 16) (length recs) a, le-leb (word 2 recs (i + 6)) left b, lt-leb (i + 16 * word 2 recs (i + 6)) (length recs) c)
 
+  module _ (m : ℕ) (e : i + 16 ≤ length recs → m ≡ word 2 recs (i + 6)) where
+    -- the ways to none, and the one span
+    zero_when : (t : Bool) (w : ℕ) → w ≡ 0 → (when t then w else 0) < 1
+    unfolding when◌then◌else◌
+    zero_when true w z = omega arith
+    zero_when false w z = omega arith
+
+    inside_or : {P : Type 0} → (i + 16 ≤ length recs → P) → (0 ≡ span_in recs i left → P) → P
+    inside_or f g = ⊎_elim f (λ h. g (span_outside h)) (fit (i + 16) (length recs))
+
+    pub no_span : m ≡ 0 → span_in recs i left < 1
+    unfolding span_in
+    no_span z = inside_or (λ h. zero_when test _ (sym (e h) ∙ z)) (λ h. omega (arith, h))
+
+    pub many_span : left < m → span_in recs i left < 1
+    many_span g = inside_or (λ h. omega (arith, span_many h (omega (arith, e h)))) (λ h. omega (arith, h))
+
+    pub long_span : m ≤ left → length recs < i + 16 * m → span_in recs i left < 1
+    long_span g k = inside_or (λ h. let q = e h in omega (arith, span_long h (omega (arith, q)) (omega (arith, q)))) (λ h. omega (arith, h))
+
+    pub one_span : 1 ≤ m → m ≤ left → i + 16 * m ≤ length recs → m ≡ span_in recs i left
+    one_span l g k = let h : i + 16 ≤ length recs = omega arith in let q = e h in q ∙ span_yes h (omega (arith, q)) (omega (arith, q))
+
   span_cases : SpanAt recs i left (span_in recs i left)
   unfolding span_in when◌then◌else◌
   span_cases = case test refl
@@ -239,19 +251,19 @@ module _ (recs : List ℕ) (i left : ℕ) where
   span_at_of m e = rw e span_cases
 
 module _ (recs text name : List ℕ) where
-  pub found_none : (f i left : ℕ) → left ≡ 0 → Nothing ≡ found_from f recs text i left name
+  pub found_none : (f i left : ℕ) → left ≡ 0 → None ≡ found_from f recs text i left name
   unfolding found_from when◌then◌else◌
   found_none zero i left z = refl
   found_none (suc f) i left z = rw (z, found_from)
 
   module _ (i left m : ℕ) (e : m ≡ span_in recs i left) (l : 0 < left) where
-    pub found_stuck : (f : ℕ) → left ≤ f → m < 1 → Nothing ≡ found_from f recs text i left name
+    pub found_stuck : (f : ℕ) → left ≤ f → m < 1 → None ≡ found_from f recs text i left name
     unfolding found_from when◌then◌else◌
     found_stuck zero h k = absurd (omega arith)
     found_stuck (suc f) h k = rw (found_from, ne_eqb left 0 (λ z. omega arith), ← e, lt-ltb m 1 k)
 
     module _ (k : 1 ≤ m) where
-      pub found_here : (f : ℕ) → left ≤ f → same (named_at recs text i) name ≡ true → At i ≡ found_from f recs text i left name
+      pub found_here : (f : ℕ) → left ≤ f → same (named_at recs text i) name ≡ true → Some i ≡ found_from f recs text i left name
       unfolding found_from when◌then◌else◌
       found_here zero h s = absurd (omega arith)
       found_here (suc f) h s = rw (found_from, ne_eqb left 0 (λ z. omega arith), ← e, le-ltb m 1 k, s)
@@ -291,6 +303,6 @@ module _ (recs text name : List ℕ) where
   found_is b zero i left h = rw (← found_none zero i left (omega arith)) (find_end recs text i left name (omega arith))
   found_is b (suc f) i left h = found_step b f i left h (λ j k l. found_is b f j k l)
 
-pub found_told : (recs text : List ℕ) (i n : ℕ) (name : List ℕ) (r : Found) → Bytes recs → r ≡ found_in recs text i n name → FoundIs recs text i n name r
+pub found_told : (recs text : List ℕ) (i n : ℕ) (name : List ℕ) (r : RustOption ℕ) → Bytes recs → r ≡ found_in recs text i n name → FoundIs recs text i n name r
 unfolding found_in
 found_told recs text i n name r b e = rw e (found_is recs text name b n i n (le_refl n))

@@ -5,7 +5,7 @@ use Rattle.table.proofs.whole.is_table.Reads as IsTable
 
 pub record Determined : Type 0 where
   pub find_child : Determines FindChild.Post
-      (λ _ (recs, (text, (from, (n, (name, _))))). recs.now & text.now & from & n & name.now)
+      (λ _ (body, (from, (n, (name, _)))). body.records.now & body.text.now & from & n & name.now)
       λ _ r _. r
   pub is_table : Determines IsTable.Post (λ _ (b, _). b.now) λ _ r _. r
 

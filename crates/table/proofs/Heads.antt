@@ -1,4 +1,5 @@
 -- What an attribute's head says, and what the paper's reader of attributes does with it. Assumes nothing.
+use Rattle.std.specs.Prelude.{Option as RustOption, Some, None}
 use Prim.Native.Nat.{ℕ, zero, suc, ◌+◌, ◌-◌, ◌≤◌, ◌<◌}
 use native.Mathlib.Omega.{arith}
 use mathlib.Core.Path.{◌≡◌, refl, ◌∙◌}
@@ -20,8 +21,6 @@ use Rattle.paper.specs.DecodeFrom.{basic_from, entries_from, entry_value}
 use Rattle.memory.specs.Memory.{word_at}
 use Rattle.memory.proofs.Laws.{fit, word_in}
 use Rattle.forms.specs.declared.form.Form.TheVariants.{Table}
-use Rattle.texts.specs.declared.Past.{Past}
-use Rattle.texts.specs.declared.Past.TheVariants.{At, Bad}
 use Rattle.forms.specs.Form.{form_of, size_of}
 use Rattle.texts.specs.Text.{FieldIs}
 use Rattle.layout.specs.Walk as Layout
@@ -60,9 +59,9 @@ module _ (recs : List ℕ) (i d n : ℕ) where
 
 -- ---- the name
 
-pub label_is : (recs text : List ℕ) (i p m : ℕ) → i + 16 ≤ length recs → m ≡ word_at 2 recs (i + 4) → (r : Past) → FieldIs name_of text m p r → LabelIs recs text i p r
-label_is recs text i p m l e (At q) F = rw (← word_in 2 recs (i + 4) (omega arith), ← e) (F recs (i + 16))
-label_is recs text i p m l e Bad F = rw (← word_in 2 recs (i + 4) (omega arith), ← e) (F recs (i + 16))
+pub label_is : (recs text : List ℕ) (i p m : ℕ) → i + 16 ≤ length recs → m ≡ word_at 2 recs (i + 4) → (r : RustOption ℕ) → FieldIs name_of text m p r → LabelIs recs text i p r
+label_is recs text i p m l e (Some q) F = rw (← word_in 2 recs (i + 4) (omega arith), ← e) (F recs (i + 16))
+label_is recs text i p m l e None F = rw (← word_in 2 recs (i + 4) (omega arith), ← e) (F recs (i + 16))
 
 -- ---- attributes
 

@@ -1,5 +1,8 @@
 -- The rules by which what each function over records answers follows from what its calls answered, one for each way through its code.
 -- Assumes nothing.
+use Rattle.std.specs.Prelude.{Option as RustOption, Some, None}
+use Rattle.layout.specs.declared.walk.Place.{Place}
+use Rattle.layout.proofs.Steps.{place}
 use Prim.Native.Nat.{ℕ, ◌+◌, ◌-◌, ◌≤◌}
 use native.Mathlib.Omega.{arith}
 use native.Mathlib.Numerals.{add-one}
@@ -20,9 +23,6 @@ use Rattle.paper.specs.DecodeFrom.{entry_value}
 use Rattle.memory.specs.Memory.{word_at}
 use Rattle.memory.proofs.Laws.{word_in}
 use Rattle.forms.specs.declared.form.Form.TheVariants.{Table}
-use Rattle.texts.specs.declared.Past.TheVariants.{At, Bad}
-use Rattle.layout.specs.declared.walk.Walk.{Walk}
-use Rattle.layout.specs.declared.walk.Walk.TheVariants.{Walked}
 use Rattle.forms.specs.Form.{form_of, size_of}
 use Rattle.layout.specs.Walk.{WalkIs, basic_here}
 use Rattle.layout.proofs.Heads.{basic_inside}
@@ -36,7 +36,7 @@ module _ (recs text : List ℕ) (d m i p : ℕ) (b : Bytes recs) (l : i + 16 ≤
   e : k ≡ word 2 recs i
   e = a ∙ word_in 2 recs i (omega arith)
 
-  pub value_basic : (r : Walk) → (k ≡ 0 → ⊥) → WalkIs (basic_here Table recs text d m i p) recs text r → WalkIs (value_here recs text d i p) recs text r
+  pub value_basic : (r : RustOption Place) → (k ≡ 0 → ⊥) → WalkIs (basic_here Table recs text d m i p) recs text r → WalkIs (value_here recs text d i p) recs text r
   unfolding entry_value raw_at size_of form_of in_table when◌then◌else◌
   value_basic r h w =
       let q = basic_inside Table recs text i p b d m l in
@@ -50,26 +50,26 @@ module _ (recs text : List ℕ) (d m i p : ℕ) (b : Bytes recs) (l : i + 16 ≤
     unfolding entry_value raw_at when◌then◌else◌ ◌>>=◌ require
     value_valued h = rw (← e, z, ← f, ne_eqb v 0 h)
 
-    pub value_component : (r : Walk) → v ≡ 0 → WalkIs (entries_here recs text (d + 1) (m - 1) (i + 16) p) recs text r → WalkIs (value_here recs text d i p) recs text r
+    pub value_component : (r : RustOption Place) → v ≡ 0 → WalkIs (entries_here recs text (d + 1) (m - 1) (i + 16) p) recs text r → WalkIs (value_here recs text d i p) recs text r
     unfolding entry_value raw_at when◌then◌else◌ ◌>>=◌ require
     value_component r h w = rw (← e, z, ← f, eq-eqb v 0 h, ← s) (onto recs text _ component r (rw (add-one d) at w))
 
 -- ---- attributes
 
-pub entries_end : (recs text : List ℕ) (d n i p : ℕ) → n ≡ 0 → WalkIs (entries_here recs text d n i p) recs text (Walked i p)
+pub entries_end : (recs text : List ℕ) (d n i p : ℕ) → n ≡ 0 → WalkIs (entries_here recs text d n i p) recs text (Some (place i p))
 entries_end recs text d n i p z = (∅, rw z (entries_none d (cursor recs text i p)))
 
 module _ (recs text : List ℕ) (d n i p : ℕ) (b : Bytes recs) (H : Head recs i d n) where
-  pub entries_unnamed : LabelIs recs text i p Bad → entries_here recs text d n i p ≡ none
+  pub entries_unnamed : LabelIs recs text i p None → entries_here recs text d n i p ≡ none
   unfolding ◌>>=◌
   entries_unnamed w = entries_open recs text i p d b n H ∙ rw w
 
-  module _ (q : ℕ) (L : LabelIs recs text i p (At q)) where
+  module _ (q : ℕ) (L : LabelIs recs text i p (Some q)) where
     pub entries_no : value_here recs text d i q ≡ none → entries_here recs text d n i p ≡ none
     unfolding ◌>>=◌
     entries_no w = entries_open recs text i p d b n H ∙ rw (L.1, w)
 
-    pub entries_more : (s : ℕ) → s ≡ word 2 recs (i + 6) → (j t : ℕ) (r : Walk) → WalkIs (value_here recs text d i q) recs text (Walked j t) → WalkIs (entries_here recs text d (n - s) j t) recs text r
+    pub entries_more : (s : ℕ) → s ≡ word 2 recs (i + 6) → (j t : ℕ) (r : RustOption Place) → WalkIs (value_here recs text d i q) recs text (Some (place j t)) → WalkIs (entries_here recs text d (n - s) j t) recs text r
         → WalkIs (entries_here recs text d n i p) recs text r
     unfolding ◌>>=◌
     entries_more s f j t r w u = rw (entries_open recs text i p d b n H, ← f, L.1, w.1) (onto recs text _ (entry L.0 w.0) r u)

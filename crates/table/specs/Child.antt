@@ -9,8 +9,7 @@ use Rattle.paper.specs.Decoder.{Cursor}
 use Rattle.paper.specs.TableDecoder.{distinct, distinct_in, absent}
 use Rattle.paper.specs.DecodeAt.{word}
 use Rattle.memory.specs.Memory.{word_at, part_at}
-use Rattle.table.specs.declared.child.Found.{Found}
-use Rattle.table.specs.declared.child.Found.TheVariants.{At, Nothing}
+use Rattle.std.specs.Prelude.{Option as RustOption, Some, None}
 use Rattle.table.specs.Walk.{value_here, entries_here}
 
 -- the name of the record at i; none where it lies outside
@@ -34,16 +33,21 @@ unfoldable pub span_in : List ℕ → ℕ → ℕ → ℕ
 span_in recs i left =
     when leb (i + 16) (length recs) && (leb (word 2 recs (i + 6)) left && leb (i + 16 * word 2 recs (i + 6)) (length recs)) then word 2 recs (i + 6) else 0
 
+-- none where it is 0
+abbrev pub SpanIs : List ℕ → ℕ → ℕ → RustOption ℕ → Type 0
+SpanIs recs i left (Some m) = (m ≡ span_in recs i left) × (1 ≤ m)
+SpanIs recs i left None = span_in recs i left < 1
+
 -- the first of the attributes at i that has the name, of which there are so many records; the first number, no less, counts the turns
-unfoldable pub found_from : ℕ → List ℕ → List ℕ → ℕ → ℕ → List ℕ → Found
-found_from zero recs text i left name = Nothing
+unfoldable pub found_from : ℕ → List ℕ → List ℕ → ℕ → ℕ → List ℕ → RustOption ℕ
+found_from zero recs text i left name = None
 found_from (suc f) recs text i left name =
-    when eqb left 0 then Nothing else
-    when ltb (span_in recs i left) 1 then Nothing else
-    when same (named_at recs text i) name then At i else
+    when eqb left 0 then None else
+    when ltb (span_in recs i left) 1 then None else
+    when same (named_at recs text i) name then Some i else
     found_from f recs text (i + 16 * span_in recs i left) (left - span_in recs i left) name
 
-unfoldable pub found_in : List ℕ → List ℕ → ℕ → ℕ → List ℕ → Found
+unfoldable pub found_in : List ℕ → List ℕ → ℕ → ℕ → List ℕ → RustOption ℕ
 found_in recs text i n name = found_from n recs text i n name
 
 -- n records at i are the attributes of s, at depth d
@@ -61,11 +65,11 @@ pub record ChildAt (recs text : List ℕ) (d : ℕ) (s : Store) (after : Cursor)
   pub some_left : 0 < left
   pub holds : Holds recs text j left d place (entry called what others) after
 
-abbrev pub Child : List ℕ → List ℕ → ℕ → Store → Cursor → List ℕ → Found → Type 0
-Child recs text d s after name (At j) = ChildAt recs text d s after name j
-Child recs text d s after name Nothing = lookup s name ≡ none
+abbrev pub Child : List ℕ → List ℕ → ℕ → Store → Cursor → List ℕ → RustOption ℕ → Type 0
+Child recs text d s after name (Some j) = ChildAt recs text d s after name j
+Child recs text d s after name None = lookup s name ≡ none
 
-pub record FoundIs (recs text : List ℕ) (i n : ℕ) (name : List ℕ) (r : Found) : Type 0 where
+pub record FoundIs (recs text : List ℕ) (i n : ℕ) (name : List ℕ) (r : RustOption ℕ) : Type 0 where
   pub told : (d p : ℕ) (s : Store) (after : Cursor) → Holds recs text i n d p s after → Child recs text d s after name r
 
 pub record AloneIs (recs text : List ℕ) (i m n : ℕ) (r : Bool) : Type 0 where

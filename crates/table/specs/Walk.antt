@@ -8,8 +8,7 @@ use Rattle.paper.specs.TableDecoder.{in_table}
 use Rattle.paper.specs.DecodeAt.{word, raw_at, cursor}
 use Rattle.paper.specs.DecodeFrom.{basic_from, entries_from, entry_value}
 use Rattle.forms.specs.declared.form.Form.TheVariants.{Table}
-use Rattle.texts.specs.declared.Past.{Past}
-use Rattle.texts.specs.declared.Past.TheVariants.{At, Bad}
+use Rattle.std.specs.Prelude.{Option as RustOption, Some, None}
 use Rattle.layout.specs.Walk as Layout
 
 -- what every record must have, whatever its kind: a node's head, and this depth
@@ -24,9 +23,9 @@ pub record Headed (recs : List ℕ) (i d m : ℕ) : Type 0 where
   pub spanned : m ≡ word 2 recs (i + 6)
 
 -- the name of the record at i
-abbrev pub LabelIs : List ℕ → List ℕ → ℕ → ℕ → Past → Type 0
-LabelIs recs text i p (At q) = (n : Name) × (field name_of (word 2 recs (i + 4)) (cursor recs text (i + 16) p) ≡ some (n, cursor recs text (i + 16) q))
-LabelIs recs text i p Bad = field name_of (word 2 recs (i + 4)) (cursor recs text (i + 16) p) ≡ none
+abbrev pub LabelIs : List ℕ → List ℕ → ℕ → ℕ → RustOption ℕ → Type 0
+LabelIs recs text i p (Some q) = (n : Name) × (field name_of (word 2 recs (i + 4)) (cursor recs text (i + 16) p) ≡ some (n, cursor recs text (i + 16) q))
+LabelIs recs text i p None = field name_of (word 2 recs (i + 4)) (cursor recs text (i + 16) p) ≡ none
 
 -- the readers, at places
 abbrev pub value_here : List ℕ → List ℕ → ℕ → ℕ → ℕ → Option (Value × Cursor)

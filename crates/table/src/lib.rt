@@ -6,5 +6,5 @@ mod once;
 mod walk;
 mod whole;
 
-pub use child::{Found, find_child};
+pub use child::find_child;
 pub use whole::is_table;

@@ -1,56 +1,45 @@
 // That no name stands twice in one component.
-ghost use Rattle.std.specs.Prelude.{◌≡◌, ◌+◌, ◌*◌, ◌≤◌, length};
+ghost use Rattle.std.specs.Prelude.{◌≡◌};
 ghost use Rattle.table.specs.Child.{Spanned, AloneIs, DistinctIs, DistinctInIs};
 
-use crate::child::{Found, find_child, name_at, span_within};
+use crate::child::{find_child, name_at, span_within};
 use fields::kind_at;
+use forms::TABLE_RECORD;
+use kinds::Kind;
+use layout::Body;
 
 // Whether no later attribute of its component has this one's name.
-fn alone(recs: &[u8], text: &[u8], i: usize, span: usize, left: usize) -> bool
-    requires { Spanned recs.now i span left }
-    ensures { AloneIs recs.now text.now i span left result }
+fn alone(body: Body, i: usize, span: usize, left: usize) -> bool
+    requires { Spanned body.records.now i span left }
+    ensures { AloneIs body.entry.records.now body.entry.text.now i span left result }
 {
-    match find_child(
-        recs,
-        text,
-        i + 16 * span,
-        left - span,
-        name_at(recs, text, i),
-    ) {
-        Found::At(_) => false,
-        Found::Nothing => true,
-    }
+    find_child(body, i + TABLE_RECORD * span, left - span, name_at(body, i)).is_none()
 }
 
 #[cycle(distinct_distinct_in)]
-fn distinct_in(recs: &[u8], text: &[u8], i: usize, span: usize) -> bool
-    requires { Spanned recs.now i span span }
-    ensures { DistinctInIs recs.now text.now i span result }
+fn distinct_in(body: Body, i: usize, span: usize) -> bool
+    requires { Spanned body.records.now i span span }
+    ensures { DistinctInIs body.entry.records.now body.entry.text.now i span result }
 {
-    if kind_at(recs, i) != 0 {
-        return true;
-    }
-    distinct(recs, text, i + 16, span - 1)
+    kind_at(body.records, i) != Kind::Component.number()
+        || distinct(body, i + TABLE_RECORD, span - 1)
 }
 
 #[cycle(distinct_distinct_in)]
-pub(crate) fn distinct(recs: &[u8], text: &[u8], from: usize, n: usize) -> bool
-    ensures { DistinctIs recs.now text.now from n result }
+pub(crate) fn distinct(body: Body, from: usize, n: usize) -> bool
+    ensures { DistinctIs body.entry.records.now body.entry.text.now from n result }
 {
     let mut i = from;
     let mut left = n;
+    // A turn passes an attribute, which spans one record or more: there is no range to go over.
     while 0 < left {
-        let span = span_within(recs, i, left);
-        if span < 1 {
+        let Some(span) = span_within(body.records, i, left) else {
+            return false;
+        };
+        if !alone(body, i, span, left) || !distinct_in(body, i, span) {
             return false;
         }
-        if !alone(recs, text, i, span, left) {
-            return false;
-        }
-        if !distinct_in(recs, text, i, span) {
-            return false;
-        }
-        i += 16 * span;
+        i += TABLE_RECORD * span;
         left -= span;
     }
     true

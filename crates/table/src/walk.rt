@@ -1,82 +1,65 @@
-// Records of a table: where those of an attribute's value, and of a component's attributes, end, if they are as they should be.
+// Records of a table: where those of an attribute's value, and of a component's attributes, end,
+// if they are as they should be.
 ghost use Rattle.std.specs.Prelude.{◌≡◌, ◌+◌, ◌≤◌, length};
 ghost use Rattle.layout.specs.Walk.{WalkIs};
 ghost use Rattle.table.specs.Walk.{heads, Headed, LabelIs, value_here, entries_here};
 
 use fields::{depth_at, kind_at, label_at, span_at, value_at};
-use forms::Form;
-use layout::{Walk, basic};
-use texts::{Past, name_here};
+use forms::{Form, TABLE_RECORD};
+use kinds::Kind;
+use layout::{Body, Place, basic};
+use texts::name_here;
 
-fn head(recs: &[u8], i: usize, depth: usize, left: usize) -> bool
-    ensures { result ≡ heads recs.now i depth left }
+fn head(records: &[u8], i: usize, depth: usize, left: usize) -> bool
+    ensures { result ≡ heads records.now i depth left }
 {
-    if !layout::head(Form::Table, recs, i, depth, left) {
-        return false;
-    }
-    depth_at(recs, i) == depth
+    layout::head(Form::Table, records, i, depth, left) && depth_at(records, i) == depth
 }
 
-fn label_end(recs: &[u8], text: &[u8], i: usize, p: usize) -> Past
-    requires { i + 16 ≤ length recs.now }
-    ensures { LabelIs recs.now text.now i p result }
+fn label_end(body: Body, at: Place) -> Option<usize>
+    requires { at.record + 16 ≤ length body.records.now }
+    ensures { LabelIs body.entry.records.now body.entry.text.now at.record at.text result }
 {
-    name_here(text, label_at(recs, i), p)
+    name_here(body.text, label_at(body.records, at.record), at.text)
 }
 
 // An attribute's value.
 #[cycle(entries_value)]
-fn value(recs: &[u8], text: &[u8], depth: usize, span: usize, i: usize, p: usize) -> Walk
-    requires { Headed recs.now i depth span }
-    ensures { WalkIs (value_here recs.now text.now depth i p) recs.now text.now result }
+fn value(body: Body, depth: usize, span: usize, at: Place) -> Option<Place>
+    requires { Headed body.records.now at.record depth span }
+    ensures { WalkIs (value_here body.entry.records.now body.entry.text.now depth at.record at.text)
+        body.entry.records.now body.entry.text.now result }
 {
-    if kind_at(recs, i) != 0 {
-        return basic(Form::Table, recs, text, depth, span, i, p);
+    if kind_at(body.records, at.record) != Kind::Component.number() {
+        return basic(Form::Table, body, depth, span, at);
     }
-    if value_at(recs, i) != 0 {
-        return Walk::Wrong;
+    if value_at(body.records, at.record) != 0 {
+        return None;
     }
-    entries(recs, text, depth + 1, span - 1, i + 16, p)
+    let first = Place {
+        record: at.record + TABLE_RECORD,
+        ..at
+    };
+    entries(body, depth + 1, span - 1, first)
 }
 
 // A component's attributes.
 #[cycle(entries_value)]
-pub(crate) fn entries(
-    recs: &[u8],
-    text: &[u8],
-    depth: usize,
-    n: usize,
-    first: usize,
-    from: usize,
-) -> Walk
-    ensures { WalkIs (entries_here recs.now text.now depth n first from) recs.now text.now result }
+pub(crate) fn entries(body: Body, depth: usize, n: usize, first: Place) -> Option<Place>
+    ensures { WalkIs (entries_here body.entry.records.now body.entry.text.now depth n first.record first.text)
+        body.entry.records.now body.entry.text.now result }
 {
-    let mut i = first;
-    let mut p = from;
+    let mut at = first;
     let mut left = n;
+    // A turn passes an attribute, which spans one record or more: there is no range to go over.
     while 0 < left {
-        if !head(recs, i, depth, left) {
-            return Walk::Wrong;
+        if !head(body.records, at.record, depth, left) {
+            return None;
         }
-        let span = span_at(recs, i);
-        match label_end(recs, text, i, p) {
-            Past::At(q) => match value(recs, text, depth, span, i, q) {
-                Walk::Walked {
-                    record: next,
-                    text: end,
-                } => {
-                    i = next;
-                    p = end;
-                    left -= span;
-                }
-                Walk::Wrong => {
-                    return Walk::Wrong;
-                }
-            },
-            Past::Bad => {
-                return Walk::Wrong;
-            }
-        }
+        let span = span_at(body.records, at.record);
+        let text = label_end(body, at)?;
+        at = value(body, depth, span, Place { text, ..at })?;
+        left -= span;
     }
-    Walk::Walked { record: i, text: p }
+    Some(at)
 }

@@ -4,32 +4,26 @@ ghost use Rattle.table.specs.Whole.{whole_in, is_table_of};
 
 use crate::once::distinct;
 use crate::walk::entries;
-use forms::{Form, Size, count, records_of, text_of};
-use layout::Walk;
+use forms::{Form, count, records_of, text_of};
+use layout::{Body, Place};
 
-fn whole(recs: &[u8], text: &[u8], n: usize) -> bool
-    ensures { result ≡ whole_in recs.now text.now n }
+fn whole(records: &[u8], text: &[u8], n: usize) -> bool
+    ensures { result ≡ whole_in records.now text.now n }
 {
-    match entries(recs, text, 1, n, 0, 0) {
-        Walk::Walked { record: i, text: p } => {
-            if i < recs.len() {
-                return false;
-            }
-            let left_over = p < text.len();
-            if left_over {
-                return false;
-            }
-            distinct(recs, text, 0, n)
-        }
-        Walk::Wrong => false,
-    }
+    let body = Body { records, text };
+    let start = Place { record: 0, text: 0 };
+    let Some(end) = entries(body, 1, n, start) else {
+        return false;
+    };
+    let left_over = end.record < records.len() || end.text < text.len();
+    !left_over && distinct(body, 0, n)
 }
 
 pub fn is_table(b: &[u8]) -> bool
     ensures { result ≡ is_table_of b.now }
 {
-    match count(Form::Table, b) {
-        Size::Records(n) => whole(records_of(Form::Table, b), text_of(b), n),
-        Size::Unfit => false,
-    }
+    let Some(n) = count(Form::Table, b) else {
+        return false;
+    };
+    whole(records_of(Form::Table, b), text_of(b), n)
 }

@@ -7,23 +7,23 @@ use Rattle.paper.specs.Decoder.{Cursor, leaf, field, name_of, path_of}
 use Rattle.paper.specs.DecodeAt.{cursor}
 use Rattle.paper.specs.Determines.{Determines, ◌&◌}
 use Rattle.texts.specs.Text.{FoundIs}
-use Rattle.texts.specs.declared.Past.{Past}
-use Rattle.texts.specs.declared.Past.TheVariants.{At, Bad}
+use Rattle.std.specs.Prelude.{Option as RustOption}
+use Rattle.std.specs.Prelude.{Some, None}
 use Rattle.texts.proofs.byte.Reads as Byte
 use Rattle.texts.proofs.leaf.Reads as Leaf
 use Rattle.texts.proofs.name_here.Reads as NameHere
 use Rattle.texts.proofs.path_here.Reads as PathHere
 
 -- a reader that found something stands at one place of the text: take that there are no records
-found_one : {A : Type 0} (read read' : Cursor → Option (A × Cursor)) (text text' : List ℕ) (p p' : ℕ) (r r' : Past)
+found_one : {A : Type 0} (read read' : Cursor → Option (A × Cursor)) (text text' : List ℕ) (p p' : ℕ) (r r' : RustOption ℕ)
     → FoundIs read text p r → FoundIs read' text' p' r' → read ≡ read' → text ≡ text' → p ≡ p' → r ≡ r'
 unfolding cursor
-found_one {A} read read' text text' p p' (At q) (At q') e f x y z =
+found_one {A} read read' text text' p p' (Some q) (Some q') e f x y z =
     let s : read (cursor [] text 0 p) ≡ read' (cursor [] text' 0 p') = cc in
-    ap At (ap (λ (c : A × Cursor). c.1.pos) (some-injective _ _ (sym (e [] 0).1 ∙ s ∙ (f [] 0).1)))
-found_one read read' text text' p p' (At q) Bad e f x y z = cc ((e [] 0).1, f [] 0)
-found_one read read' text text' p p' Bad (At q') e f x y z = cc (e [] 0, (f [] 0).1)
-found_one read read' text text' p p' Bad Bad e f x y z = cc
+    ap Some (ap (λ (c : A × Cursor). c.1.pos) (some-injective _ _ (sym (e [] 0).1 ∙ s ∙ (f [] 0).1)))
+found_one read read' text text' p p' (Some q) None e f x y z = cc ((e [] 0).1, f [] 0)
+found_one read read' text text' p p' None (Some q') e f x y z = cc (e [] 0, (f [] 0).1)
+found_one read read' text text' p p' None None e f x y z = cc
 
 pub record Determined : Type 0 where
   pub byte : Determines Byte.Post (λ _ (s, (at, _)). s.now & at) λ _ r _. r

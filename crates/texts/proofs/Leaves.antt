@@ -14,34 +14,38 @@ use Rattle.paper.specs.Syntax.{boolean, null, integer, decimal, string, referenc
 use Rattle.paper.specs.Decoder.{decimal_of, string_of, path_of, field, signed, leaf}
 use Rattle.theorems.proofs.Laws.DecodeAt.{field_here, field_none, field_misplaced}
 use Rattle.paper.specs.DecodeAt.{cursor}
-use Rattle.texts.specs.declared.Past.{Past}
-use Rattle.texts.specs.declared.Past.TheVariants.{At, Bad}
-use Rattle.texts.specs.Text.{Ends, PastIs, LeafIs, FieldIs}
+use Rattle.std.specs.Prelude.{Option as RustOption}
+use Rattle.std.specs.Prelude.{Some, None}
+use Rattle.texts.specs.Text.{Ends, EndIs, LeafIs, FieldIs}
 
 -- ---- values that are numbers
 
 module _ (text : List ℕ) (p v k : ℕ) where
-  pub integer_leaf : k ≡ 3 → LeafIs text k v p (At p)
+  pub integer_leaf : k ≡ 3 → LeafIs text k v p (Some p)
   unfolding leaf when◌then◌else◌
   integer_leaf e recs i = rw e (integer (signed v), refl)
 
-  pub zero_leaf : k ≡ 0 → LeafIs text k v p Bad
+  pub zero_leaf : k ≡ 0 → LeafIs text k v p None
   unfolding leaf when◌then◌else◌
   zero_leaf e recs i = rw e
 
-  pub boolean_leaf : k ≡ 1 → v ≤ 1 → LeafIs text k v p (At p)
+  pub vector_leaf : k ≡ 7 → LeafIs text k v p None
+  unfolding leaf when◌then◌else◌
+  vector_leaf e recs i = rw e
+
+  pub boolean_leaf : k ≡ 1 → v ≤ 1 → LeafIs text k v p (Some p)
   unfolding leaf when◌then◌else◌ ◌>>=◌ require
   boolean_leaf e h recs i = rw e (boolean (eqb v 1), rw (le-leb v 1 h))
 
-  pub boolean_no : k ≡ 1 → 1 < v → LeafIs text k v p Bad
+  pub boolean_no : k ≡ 1 → 1 < v → LeafIs text k v p None
   unfolding leaf when◌then◌else◌ ◌>>=◌ require
   boolean_no e h recs i = rw (e, lt-leb v 1 h)
 
-  pub null_leaf : k ≡ 2 → v ≡ 0 → LeafIs text k v p (At p)
+  pub null_leaf : k ≡ 2 → v ≡ 0 → LeafIs text k v p (Some p)
   unfolding leaf when◌then◌else◌ ◌>>=◌ require
   null_leaf e h recs i = rw e (null, rw (eq-eqb v 0 h))
 
-  pub null_no : k ≡ 2 → (v ≡ 0 → ⊥) → LeafIs text k v p Bad
+  pub null_no : k ≡ 2 → (v ≡ 0 → ⊥) → LeafIs text k v p None
   unfolding leaf when◌then◌else◌ ◌>>=◌ require
   null_no e h recs i = rw (e, ne_eqb v 0 h)
 
@@ -56,35 +60,35 @@ module _ {A : Type 0} (r : List ℕ → Option (A × List ℕ)) (text : List ℕ
 -- ---- texts whose place a record says
 
 module _ {A : Type 0} (r : List ℕ → Option (A × List ℕ)) (text : List ℕ) (place p : ℕ) where
-  pub field_elsewhere : (place ≡ p → ⊥) → FieldIs r text place p Bad
+  pub field_elsewhere : (place ≡ p → ⊥) → FieldIs r text place p None
   field_elsewhere h recs i = field_misplaced r recs text i p place h
 
-  pub field_is : place ≡ p → (o : Past) → PastIs (r (drop p text)) text p o → FieldIs r text place p o
-  field_is h (At q) E = λ recs i. (E.what, rw h (field_ends r text p q E recs i))
-  field_is h Bad E = λ recs i. field_none r recs text i p place E
+  pub field_is : place ≡ p → (o : RustOption ℕ) → EndIs (r (drop p text)) text p o → FieldIs r text place p o
+  field_is h (Some q) E = λ recs i. (E.what, rw h (field_ends r text p q E recs i))
+  field_is h None E = λ recs i. field_none r recs text i p place E
 
 module _ (text : List ℕ) (p k : ℕ) where
-  pub decimal_leaf : (r : Past) → k ≡ 4 → PastIs (decimal_of (drop p text)) text p r → LeafIs text k p p r
+  pub decimal_leaf : (r : RustOption ℕ) → k ≡ 4 → EndIs (decimal_of (drop p text)) text p r → LeafIs text k p p r
   unfolding leaf when◌then◌else◌ ◌>>=◌
-  decimal_leaf (At q) e E = λ recs i. rw e (decimal E.what, rw (field_ends decimal_of text p q E recs i))
-  decimal_leaf Bad e E = λ recs i. rw (e, field_none decimal_of recs text i p p E)
+  decimal_leaf (Some q) e E = λ recs i. rw e (decimal E.what, rw (field_ends decimal_of text p q E recs i))
+  decimal_leaf None e E = λ recs i. rw (e, field_none decimal_of recs text i p p E)
 
-  pub string_leaf : (r : Past) → k ≡ 5 → PastIs (string_of (drop p text)) text p r → LeafIs text k p p r
+  pub string_leaf : (r : RustOption ℕ) → k ≡ 5 → EndIs (string_of (drop p text)) text p r → LeafIs text k p p r
   unfolding leaf when◌then◌else◌ ◌>>=◌
-  string_leaf (At q) e E = λ recs i. rw e (string E.what, rw (field_ends string_of text p q E recs i))
-  string_leaf Bad e E = λ recs i. rw (e, field_none string_of recs text i p p E)
+  string_leaf (Some q) e E = λ recs i. rw e (string E.what, rw (field_ends string_of text p q E recs i))
+  string_leaf None e E = λ recs i. rw (e, field_none string_of recs text i p p E)
 
-  pub path_leaf : (r : Past) → k ≡ 6 → PastIs (path_of (drop p text)) text p r → LeafIs text k p p r
+  pub path_leaf : (r : RustOption ℕ) → k ≡ 6 → EndIs (path_of (drop p text)) text p r → LeafIs text k p p r
   unfolding leaf when◌then◌else◌ ◌>>=◌
-  path_leaf (At q) e E = λ recs i. rw e (reference E.what, rw (field_ends path_of text p q E recs i))
-  path_leaf Bad e E = λ recs i. rw (e, field_none path_of recs text i p p E)
+  path_leaf (Some q) e E = λ recs i. rw e (reference E.what, rw (field_ends path_of text p q E recs i))
+  path_leaf None e E = λ recs i. rw (e, field_none path_of recs text i p p E)
 
-  pub no_leaf : (v : ℕ) → 3 < k → (k ≡ 4 → ⊥) → (k ≡ 5 → ⊥) → (k ≡ 6 → ⊥) → LeafIs text k v p Bad
+  pub no_leaf : (v : ℕ) → 3 < k → (k ≡ 4 → ⊥) → (k ≡ 5 → ⊥) → (k ≡ 6 → ⊥) → LeafIs text k v p None
   unfolding leaf when◌then◌else◌
   no_leaf v h a b c recs i =
       rw (ne_eqb k 1 (λ e. omega arith), ne_eqb k 2 (λ e. omega arith), ne_eqb k 3 (λ e. omega arith), ne_eqb k 4 a, ne_eqb k 5 b, ne_eqb k 6 c)
 
-  pub misplaced_leaf : (v : ℕ) → 3 < k → (v ≡ p → ⊥) → LeafIs text k v p Bad
+  pub misplaced_leaf : (v : ℕ) → 3 < k → (v ≡ p → ⊥) → LeafIs text k v p None
   unfolding leaf when◌then◌else◌ ◌>>=◌
   misplaced_leaf v h m recs i =
       rw (ne_eqb k 1 (λ e. omega arith), ne_eqb k 2 (λ e. omega arith), ne_eqb k 3 (λ e. omega arith), field_misplaced decimal_of recs text i p v m, field_misplaced string_of recs text i p v m, field_misplaced path_of recs text i p v m)

@@ -16,9 +16,18 @@ use Rattle.paper.specs.Scanner.{scan}
 use Rattle.paper.specs.Decoder.{one_name, name_of, names_of, path_of, long_of, decimal_of, string_of}
 use Rattle.theorems.proofs.Laws.DecodeAt.{Bytes, part, name_here, long_here, path_here}
 use Rattle.paper.specs.DecodeAt.{word}
-use Rattle.texts.specs.declared.Past.{Past}
-use Rattle.texts.specs.declared.Past.TheVariants.{At, Bad}
-use Rattle.texts.specs.Text.{legal_name, legal_decimal, Ends, PastIs, LongEnds}
+use Rattle.std.specs.Bool.{then_some}
+use Rattle.std.specs.Prelude.{Option as RustOption}
+use Rattle.std.specs.Prelude.{Some, None}
+use Rattle.texts.specs.Text.{legal_name, legal_decimal, Ends, EndIs, LongEnds}
+
+-- an answer that stands under a test
+pub when_so : (P : RustOption ℕ → Type 0) (b : Bool) (q : ℕ) → (b ≡ true → P (Some q)) → (b ≡ false → P None) → P (then_some b q)
+when_so P b q so not_so = case b refl
+  where
+    case : (t : Bool) → b ≡ t → P (then_some t q)
+    case true e = so e
+    case false e = not_so e
 
 no_more : {B : Type 0} (c : Bool) → ◌≡◌ {A = Option B} (require c >>= λ _. none) none
 unfolding ◌>>=◌ require
@@ -87,14 +96,14 @@ unfolding names_of ◌>>=◌
 names_no text p zero h e = absurd (omega arith)
 names_no text p (suc n) h e = rw e
 
-pub names_go : (text : List ℕ) (p q n : ℕ) (r : Past) → 0 < n → Ends (name_of (drop p text)) text p q → PastIs (names_of (n - 1) (drop q text)) text q r → PastIs (names_of n (drop p text)) text p r
+pub names_go : (text : List ℕ) (p q n : ℕ) (r : RustOption ℕ) → 0 < n → Ends (name_of (drop p text)) text p q → EndIs (names_of (n - 1) (drop q text)) text q r → EndIs (names_of n (drop p text)) text p r
 unfolding names_of ◌>>=◌
 names_go text p q zero r h N R = absurd (omega arith)
-names_go text p q (suc n) (At e) h N R =
+names_go text p q (suc n) (Some e) h N R =
     let w : suc n - 1 ≡ n = omega arith in
     let R' = rw w at R.is in
     record { what = N.what ∷ R.what; is = rw (N.is, R'); on = omega (arith, N.on, R.on); within = R.within }
-names_go text p q (suc n) Bad h N R =
+names_go text p q (suc n) None h N R =
     let w : suc n - 1 ≡ n = omega arith in
     let R' = rw w at R in
     rw (N.is, R')
@@ -112,9 +121,9 @@ module _ (text : List ℕ) (p n : ℕ) (e : n ≡ get_or text p 0) (l : p < leng
   unfolding ◌>>=◌ require
   path_opens g h = path_here text p l ∙ rw (← e, le-leb 1 n g, le-leb n 32 h, add-one p)
 
-  pub path_is : (r : Past) → 1 ≤ n → n ≤ 32 → PastIs (names_of n (drop (p + 1) text)) text (p + 1) r → PastIs (path_of (drop p text)) text p r
-  path_is (At q) g h R = record { what = R.what; is = path_opens g h ∙ R.is; on = omega (arith, R.on); within = R.within }
-  path_is Bad g h R = path_opens g h ∙ R
+  pub path_is : (r : RustOption ℕ) → 1 ≤ n → n ≤ 32 → EndIs (names_of n (drop (p + 1) text)) text (p + 1) r → EndIs (path_of (drop p text)) text p r
+  path_is (Some q) g h R = record { what = R.what; is = path_opens g h ∙ R.is; on = omega (arith, R.on); within = R.within }
+  path_is None g h R = path_opens g h ∙ R
 
 -- ---- strings and decimals
 

@@ -1,13 +1,9 @@
 -- `fields::place_at` meets its contract. Assumes nothing.
 use Prim.Native.Nat.{◌+◌}
 use native.Mathlib.Omega.{arith}
-use mathlib.Core.Path.{sym}
-use lib.ListN.{length}
-use Rattle.memory.proofs.Laws.{word_out, fits_yes, fits_no}
+use mathlib.Core.Path.{◌∙◌}
+use Rattle.fields.proofs.Far.{word_far}
 use Rattle.fields.proofs.place_at.Goals as goal
 
-pub returns-then-not-fits : goal.returns-then-not-fits
-returns-then-not-fits c = sym (word_out 4 c.args.recs.now (c.args.i + 16) (omega (arith, fits_no (length c.args.recs.now) c.args.i 20 c.fits.ensures c.if-not-fits.true-raw)))
-
-pub overflow_add-i : goal.overflow_add-i
-overflow_add-i c = omega (arith, fits_yes (length c.args.recs.now) c.args.i 20 c.fits.ensures c.if-not-fits.false-raw)
+pub returns : goal.returns
+returns c = c.get32.ensures ∙ word_far 4 c.args.recs.now (c.args.i + 16) _ (omega arith) (omega arith) c.saturating_add.ensures

@@ -1,29 +1,15 @@
 -- `texts::decimal_end` meets its contract. Assumes nothing.
-use native.Mathlib.Omega.{arith}
 use mathlib.Core.Path.{◌∙◌, sym}
-use Rattle.texts.specs.Text.{legal_decimal}
-use Rattle.texts.proofs.Texts.{decimal_good, decimal_illegal, decimal_no}
+use Rattle.texts.specs.Text.{legal_decimal, EndIs}
+use Rattle.texts.proofs.Texts.{when_so, decimal_good, decimal_illegal, decimal_no}
 use Rattle.texts.proofs.decimal_end.Goals as goal
 
-pub overflow_add-start : goal.overflow_add-start
-overflow_add-start c = let L = rw c.in-At.is at c.long_end.ensures in omega arith
+pub returns-in_err-end : goal.returns-in_err-end
+returns-in_err-end c = rw c.from_residual.ensures (decimal_no c.args.text.now c.args.p c.in_err-end.ensures)
 
-pub slice_bounds-is_decimal-count : goal.slice_bounds-is_decimal-count
-slice_bounds-is_decimal-count c = let L = rw c.in-At.is at c.long_end.ensures in omega arith
-
-pub slice_bounds-is_decimal-start : goal.slice_bounds-is_decimal-start
-slice_bounds-is_decimal-start c = let L = rw c.in-At.is at c.long_end.ensures in omega arith
-
-pub slice_bounds-is_decimal-end : goal.slice_bounds-is_decimal-end
-slice_bounds-is_decimal-end c = let L = rw c.in-At.is at c.long_end.ensures in omega arith
-
-pub returns-then-is_decimal : goal.returns-then-is_decimal
+pub returns : goal.returns
 unfolding legal_decimal
-returns-then-is_decimal c = decimal_good _ _ _ (rw c.in-At.is at c.long_end.ensures) (sym c.is_decimal.ensures ∙ c.if-is_decimal.true)
-
-pub returns-else-is_decimal : goal.returns-else-is_decimal
-unfolding legal_decimal
-returns-else-is_decimal c = decimal_illegal _ _ _ (rw c.in-At.is at c.long_end.ensures) (sym c.is_decimal.ensures ∙ c.if-is_decimal.false)
-
-pub returns-in-Bad : goal.returns-in-Bad
-returns-in-Bad c = decimal_no c.args.text.now c.args.p (rw c.in-Bad.is at c.long_end.ensures)
+returns c =
+    let L = c.in_ok-end.ensures in
+    let e = c.is_decimal.ensures in
+    rw c.then_some.ensures (when_so (EndIs _ c.args.text.now c.args.p) c.is_decimal.result _ (λ g. decimal_good _ _ _ L (sym e ∙ g)) (λ g. decimal_illegal _ _ _ L (sym e ∙ g)))

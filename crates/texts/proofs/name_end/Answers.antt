@@ -1,27 +1,28 @@
 -- `texts::name_end` meets its contract. Assumes nothing.
-use Prim.Native.Nat.{◌+◌}
 use native.Mathlib.Omega.{arith}
+use Prim.Native.Nat.{◌<◌}
+use lib.ListN.{length}
 use mathlib.Core.Path.{◌∙◌, sym}
-use borrow.Author.Tests.{not-true, not-false}
 use Rattle.theorems.proofs.Laws.DecodeAt.{name_end}
-use Rattle.memory.proofs.Laws.{fits_yes, fits_no}
-use Rattle.texts.specs.Text.{legal_name}
-use Rattle.texts.proofs.Texts.{name_long, name_good, name_illegal}
+use Rattle.texts.specs.Text.{legal_name, EndIs}
+use Rattle.texts.proofs.Texts.{when_so, name_long, name_good, name_illegal}
 use Rattle.texts.proofs.name_end.Goals as goal
 
-pub returns-then-text-p : goal.returns-then-text-p
-returns-then-text-p c = name_end c.args.text.now c.args.p (omega arith)
+pub returns-in_err-get : goal.returns-in_err-get
+returns-in_err-get c = rw c.from_residual.ensures (name_end c.args.text.now c.args.p (omega (arith, c.in_err-get.ensures.lookup)))
 
-pub returns-then-not-fits : goal.returns-then-not-fits
-returns-then-not-fits c = name_long c.args.text.now c.args.p _ c.wide-n.ensures.0 (omega arith) (fits_no _ _ _ c.fits.ensures c.if-not-fits.true-raw)
-
-pub slice_bounds-is_name-end : goal.slice_bounds-is_name-end
-slice_bounds-is_name-end c = fits_yes _ (c.args.p + 1) c.wide-n.result c.fits.ensures c.if-not-fits.false-raw
-
-pub returns-then-not-is_name : goal.returns-then-not-is_name
-unfolding legal_name
-returns-then-not-is_name c = name_illegal c.args.text.now c.args.p _ c.wide-n.ensures.0 (omega arith) (fits_yes _ _ _ c.fits.ensures c.if-not-fits.false-raw) (sym c.is_name.ensures ∙ not-true _ c.if-not-is_name.true-raw)
+pub returns-in_err-name : goal.returns-in_err-name
+returns-in_err-name c =
+    rw c.from_residual-in_err-name.ensures (name_long c.args.text.now c.args.p c.from-n.result (c.from-n.ensures ∙ c.in_ok-get.ensures.lookup.3.1 0) (omega (arith, c.in_ok-get.ensures.lookup)) (omega (arith, c.in_err-name.ensures.lookup)))
 
 pub returns : goal.returns
 unfolding legal_name
-returns c = name_good c.args.text.now c.args.p _ c.wide-n.ensures.0 (omega arith) (fits_yes _ _ _ c.fits.ensures c.if-not-fits.false-raw) (sym c.is_name.ensures ∙ not-false _ c.if-not-is_name.false-raw)
+returns c =
+    let k = c.from-n.ensures ∙ c.in_ok-get.ensures.lookup.3.1 0 in
+    let n = c.in_ok-name.ensures.lookup.0.2 in
+    let e = c.is_name.ensures in
+    let l : c.args.p < length c.args.text.now = c.in_ok-get.ensures.lookup.3.0 in
+    let h = c.in_ok-name.ensures.lookup.0.1 in
+    rw c.then_some.ensures (when_so (EndIs _ c.args.text.now c.args.p) c.is_name.result _
+    (λ g. name_good c.args.text.now c.args.p c.from-n.result k l h (rw n at (sym e ∙ g)))
+    (λ g. name_illegal c.args.text.now c.args.p c.from-n.result k l h (rw n at (sym e ∙ g))))

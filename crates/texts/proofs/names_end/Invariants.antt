@@ -1,12 +1,14 @@
-use Prim.Native.Nat.{◌≤◌}
+use Prim.Native.Nat.{ℕ, ◌-◌, ◌≤◌}
 use lib.ListN.{length, drop}
+use Rattle.std.specs.Prelude.{Option as RustOption}
 use Rattle.paper.specs.Decoder.{names_of}
-use Rattle.texts.specs.declared.Past.{Past}
-use Rattle.texts.specs.Text.{PastIs}
+use Rattle.texts.specs.Text.{EndIs}
 use Rattle.texts.proofs.names_end.Given as goal
 
-abbrev pub invariant-loop-left : goal.invariant-loop-left
-invariant-loop-left l = (l.q ≤ length l.text) × ((r : Past) → PastIs (names_of l.left (drop l.q l.text)) l.text l.q r → PastIs (names_of l.n (drop l.p l.text)) l.text l.p r)
-
-abbrev pub decreases-loop-left : goal.decreases-loop-left
-decreases-loop-left l = l.left
+-- whatever is read from here on gives, with the names passed, what is read from the start
+abbrev pub invariant-loop : goal.invariant-loop
+invariant-loop l =
+    record {
+      within : l.end ≤ length l.text;
+      so_far : (r : RustOption ℕ) → EndIs (names_of (l.n - l.counter) (drop l.end l.text)) l.text l.end r → EndIs (names_of l.n (drop l.p l.text)) l.text l.p r;
+    }

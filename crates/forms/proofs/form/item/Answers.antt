@@ -1,12 +1,22 @@
 -- `forms::form::item` meets its contract. Assumes nothing.
-use Rattle.forms.proofs.Forms.{item_other, item_named, item_placed}
+use mathlib.Core.Path.{◌∙◌, sym}
+use borrow.Author.Tests.{eqb-true, eqb-false, ne_eqb}
+use Rattle.forms.proofs.Forms.{no_both, item_other, item_named, item_placed}
+use Rattle.forms.proofs.form.item.Goals.{then-step_at-number, else-step_at-number}
 use Rattle.forms.proofs.form.item.Goals as goal
 
-pub returns-then-step_at-ne7 : goal.returns-then-step_at-ne7
-returns-then-step_at-ne7 c = item_other c.args.recs.now c.args.i c.args.depth _ c.step_at.ensures.0 c.if-step_at-ne7.true
+pub returns-then-label_at-eq0 : goal.returns-then-label_at-eq0
+returns-then-label_at-eq0 c =
+    let t = c.if-label_at-eq0.true in
+    elim c.if-step_at-number.branch [
+      | then-step_at-number w ↦ item_placed c.args.recs.now c.args.i 0 _ c.step_at.ensures (w.if-step_at-number.true ∙ c.number.ensures) _ w.label_at.ensures.0 _ c.place_at.ensures (eqb-true _ _ (sym w.value-is ∙ t))
+      | else-step_at-number w ↦ no_both t (w.value-is ∙ ne_eqb _ _ w.if-step_at-number.false)
+    ]
 
-pub returns-then-label_at-ne0 : goal.returns-then-label_at-ne0
-returns-then-label_at-ne0 c = item_named c.args.recs.now c.args.i c.args.depth _ c.step_at.ensures.0 c.if-step_at-ne7.false _ c.label_at.ensures.0 c.if-label_at-ne0.true
-
-pub returns : goal.returns
-returns c = item_placed c.args.recs.now c.args.i c.args.depth _ c.step_at.ensures.0 c.if-step_at-ne7.false _ c.label_at.ensures.0 _ c.place_at.ensures c.if-label_at-ne0.false
+pub returns-else-label_at-eq0 : goal.returns-else-label_at-eq0
+returns-else-label_at-eq0 c =
+    let f = c.if-label_at-eq0.false in
+    f ∙ elim c.if-step_at-number.branch [
+      | then-step_at-number w ↦ item_named c.args.recs.now c.args.i 0 _ c.step_at.ensures (w.if-step_at-number.true ∙ c.number.ensures) _ w.label_at.ensures.0 (eqb-false _ _ (sym w.value-is ∙ f))
+      | else-step_at-number w ↦ item_other c.args.recs.now c.args.i 0 _ c.step_at.ensures (λ e. w.if-step_at-number.false (e ∙ sym c.number.ensures))
+    ]

@@ -1,15 +1,20 @@
 -- `steplist::record::stops` meets its contract. Assumes nothing.
-use lib.ListN.{length}
 use native.Mathlib.Omega.{arith}
-use Rattle.memory.proofs.Laws.{fits_yes, fits_no}
+use mathlib.Core.Path.{sym, ◌∙◌}
+use borrow.Author.Tests.{le-leb, leb-true, leb-false}
+use Rattle.theorems.proofs.Laws.DecodeAt.{Bytes}
 use Rattle.steplist.proofs.Records.{stops_end, stops_cut, stops_leave}
 use Rattle.steplist.proofs.record.stops.Goals as goal
 
-pub returns-then-recs-i : goal.returns-then-recs-i
-returns-then-recs-i c = stops_end c.args.recs.now c.args.i c.if-recs-i.true
+pub returns-then-records-i : goal.returns-then-records-i
+returns-then-records-i c text p = le-leb _ _ c.if-records-i.true ∙ stops_end c.args.records.now c.args.i c.if-records-i.true text p
 
-pub returns-then-not-fits : goal.returns-then-not-fits
-returns-then-not-fits c = stops_cut c.args.recs.now c.args.i (record { byte = λ k. omega (arith, c.shared_slice_known-1.given k) }) c.if-recs-i.false (fits_no (length c.args.recs.now) c.args.i 20 c.fits.ensures c.if-not-fits.true-raw)
+pub returns-then-fits : goal.returns-then-fits
+returns-then-fits c text p =
+    let B : Bytes c.args.records.now = record { byte = λ k. omega (arith, c.type_inv.records k) } in
+    rw c.number.ensures (stops_leave c.args.records.now c.args.i B c.if-records-i.false _ (leb-true _ _ (sym c.fits.ensures ∙ c.if-fits.true)) c.step_at.ensures text p)
 
-pub returns : goal.returns
-returns c = stops_leave c.args.recs.now c.args.i (record { byte = λ k. omega (arith, c.shared_slice_known-1.given k) }) c.if-recs-i.false _ (fits_yes (length c.args.recs.now) c.args.i 20 c.fits.ensures c.if-not-fits.false-raw) c.step_at.ensures.0
+pub returns-else-fits : goal.returns-else-fits
+returns-else-fits c text p =
+    let B : Bytes c.args.records.now = record { byte = λ k. omega (arith, c.type_inv.records k) } in
+    c.if-fits.false ∙ stops_cut c.args.records.now c.args.i B c.if-records-i.false (leb-false _ _ (sym c.fits.ensures ∙ c.if-fits.false)) text p

@@ -3,8 +3,8 @@ use native.Mathlib.Omega.{arith}
 use Rattle.steplist.proofs.Values.{set_none, set_basic}
 use Rattle.steplist.proofs.statement.set.Goals as goal
 
-pub returns-then-span-lt1 : goal.returns-then-span-lt1
-returns-then-span-lt1 c = set_none c.args.recs.now c.args.text.now c.args.depth c.args.i c.args.p c.requires.0 (record { byte = λ k. omega (arith, c.shared_slice_known-1.given k) }) c.requires.1 _ c.span_at-span.ensures.0 c.if-span-lt1.true
+pub returns-then-span-eq0 : goal.returns-then-span-eq0
+returns-then-span-eq0 c = set_none c.args.here.body.records.now c.args.here.body.text.now c.args.depth c.args.here.at.record c.args.here.at.text c.args.here.within (record { byte = c.args.here.body.are_bytes }) c.requires _ c.span_at-span.ensures.0 (omega arith)
 
 pub returns : goal.returns
-returns c = set_basic c.args.recs.now c.args.text.now c.args.depth c.args.i c.args.p c.requires.0 (record { byte = λ k. omega (arith, c.shared_slice_known-1.given k) }) c.requires.1 _ c.span_at-span.ensures.0 c.basic.result c.if-span-lt1.false c.basic.ensures.0
+returns c = set_basic c.args.here.body.records.now c.args.here.body.text.now c.args.depth c.args.here.at.record c.args.here.at.text c.args.here.within (record { byte = c.args.here.body.are_bytes }) c.requires _ c.span_at-span.ensures.0 c.basic.result (omega arith) c.basic.ensures.0

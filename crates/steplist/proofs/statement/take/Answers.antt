@@ -1,20 +1,17 @@
 -- `steplist::statement::take` meets its contract. Assumes nothing.
-use native.Mathlib.Omega.{arith}
-use borrow.Author.Tests.{not-true, not-false}
 use Rattle.steplist.proofs.Values.{take_marred, take_valued, take_no, take_path}
+use Rattle.steplist.proofs.statement.take.Goals.{then-not-plain-via-then-not-plain, then-not-plain-via-else-not-plain+then-value_at-ne0}
 use Rattle.steplist.proofs.statement.take.Goals as goal
 
 pub returns-then-not-plain : goal.returns-then-not-plain
-returns-then-not-plain c = take_marred c.args.recs.now c.args.text.now 0 c.args.i c.args.p c.requires (rw (not-true c.plain.result c.if-not-plain.true-raw) at c.plain.ensures)
+returns-then-not-plain c =
+    elim c.then-not-plain.branch [
+      | then-not-plain-via-then-not-plain w ↦ take_marred c.args.here.body.records.now c.args.here.body.text.now 0 c.args.here.at.record c.args.here.at.text c.args.here.within (rw w.if-not-plain.true at c.plain.ensures)
+      | then-not-plain-via-else-not-plain+then-value_at-ne0 w ↦ take_valued c.args.here.body.records.now c.args.here.body.text.now 0 c.args.here.at.record c.args.here.at.text c.args.here.within (rw w.if-not-plain.false at c.plain.ensures) _ w.value_at.ensures w.if-value_at-ne0.true
+    ]
 
-pub returns-then-value_at-ne0 : goal.returns-then-value_at-ne0
-returns-then-value_at-ne0 c = take_valued c.args.recs.now c.args.text.now 0 c.args.i c.args.p c.requires (rw (not-false c.plain.result c.if-not-plain.false-raw) at c.plain.ensures) _ c.value_at.ensures c.if-value_at-ne0.true
+pub returns-in_err-text : goal.returns-in_err-text
+returns-in_err-text c = rw c.from_residual.ensures (take_no c.args.here.body.records.now c.args.here.body.text.now 0 c.args.here.at.record c.args.here.at.text c.args.here.within (rw c.if-not-plain.false at c.plain.ensures) _ c.value_at.ensures c.if-value_at-ne0.false _ c.label_at-place.ensures.0 c.in_err-text.ensures)
 
-pub overflow_add-result : goal.overflow_add-result
-overflow_add-result c = omega (arith, c.requires)
-
-pub returns-in-At : goal.returns-in-At
-returns-in-At c = take_path c.args.recs.now c.args.text.now 0 c.args.i c.args.p c.requires (rw (not-false c.plain.result c.if-not-plain.false-raw) at c.plain.ensures) _ c.value_at.ensures c.if-value_at-ne0.false _ c.label_at.ensures.0 _ (rw c.in-At.is at c.path_here.ensures)
-
-pub returns-in-Bad : goal.returns-in-Bad
-returns-in-Bad c = take_no c.args.recs.now c.args.text.now 0 c.args.i c.args.p c.requires (rw (not-false c.plain.result c.if-not-plain.false-raw) at c.plain.ensures) _ c.value_at.ensures c.if-value_at-ne0.false _ c.label_at.ensures.0 (rw c.in-Bad.is at c.path_here.ensures)
+pub returns : goal.returns
+returns c = take_path c.args.here.body.records.now c.args.here.body.text.now 0 c.args.here.at.record c.args.here.at.text c.args.here.within (rw c.if-not-plain.false at c.plain.ensures) _ c.value_at.ensures c.if-value_at-ne0.false _ c.label_at-place.ensures.0 _ c.in_ok-text.ensures

@@ -1,10 +1,10 @@
--- `forms::form::top` meets its contract. Assumes nothing.
+-- `forms::form::Form::top` meets its contract. Assumes nothing.
 use native.Mathlib.Omega.{arith}
 use mathlib.Core.Path.{refl}
 use Rattle.paper.specs.TableDecoder.{in_table}
 use Rattle.paper.specs.StepDecoder.{in_steps}
 use Rattle.forms.specs.Form.{form_of, top_of}
-use Rattle.forms.proofs.form.top.Goals as goal
+use Rattle.forms.proofs.form.Form.top.Goals as goal
 
 pub returns-in-Table : goal.returns-in-Table
 unfolding form_of top_of in_table in_steps
