@@ -8,6 +8,8 @@ use mathlib.Core.List.{List, ◌++◌, append_assoc, append-nil}
 use lib.ListN.{length, length-append}
 use Rattle.memory.specs.Memory.{stored}
 use Rattle.memory.proofs.Laws.{stored_none, then_stored}
+use Rattle.rows.specs.Row.{row_of}
+use Rattle.rows.specs.declared.row.Row.{Row}
 use Rattle.rows.specs.Change.{field_at, row_bytes, row_stored}
 use Rattle.rows.proofs.Fields.{length_row, row_in}
 use Rattle.load.specs.Load.{name_size, value_size, placed_label, placed_value, size_of, loaded_row, loaded, loads, load_stored}
@@ -18,15 +20,10 @@ sized text p k v a b e f = rw (e, f)
 
 -- ---- one row
 
-row_is : (recs text : List ℕ) (i k d p v l m y : ℕ) → k ≡ field_at 2 recs i 0 → d ≡ field_at 2 recs i 2 → p ≡ field_at 2 recs i 4 → v ≡ field_at 8 recs i 8
-    → l ≡ placed_label p → m ≡ size_of text p k v → y ≡ placed_value k v → row_bytes k d l m y ≡ loaded_row recs text i
+pub row_is : (recs text : List ℕ) (i : ℕ) (r : Row) (l m y : ℕ) → r ≡ row_of recs i → l ≡ placed_label r.label → m ≡ size_of text r.label r.kind r.value → y ≡ placed_value r.kind r.value
+    → row_bytes r.kind r.depth l m y ≡ loaded_row recs text i
 unfolding loaded_row
-row_is recs text i k d p v l m y ek ed ep ev el em ey = rw (ey, em, el, ev, ep, ed, ek)
-
-pub row_loaded : (recs text w w' : List ℕ) (i k d p v l m y : ℕ) → i < 4096 → k ≡ field_at 2 recs i 0 → d ≡ field_at 2 recs i 2 → p ≡ field_at 2 recs i 4 → v ≡ field_at 8 recs i 8
-    → l ≡ placed_label p → m ≡ size_of text p k v → y ≡ placed_value k v → w' ≡ row_stored w i (row_bytes k d l m y) → w' ≡ stored w (i * 16) (loaded_row recs text i)
-row_loaded recs text w w' i k d p v l m y h ek ed ep ev el em ey e =
-    e ∙ row_in w i (row_bytes k d l m y) (omega arith) ∙ ap (stored w (i * 16)) (row_is recs text i k d p v l m y ek ed ep ev el em ey)
+row_is recs text i r l m y e el em ey = rw (ey, em, el, e)
 
 pub loaded_row_length : (recs text : List ℕ) (i : ℕ) → length (loaded_row recs text i) ≡ 16
 unfolding loaded_row
@@ -53,9 +50,9 @@ pub load_none : (recs text w : List ℕ) → w ≡ stored w 0 (loaded recs text 
 unfolding loaded
 load_none recs text w = sym (stored_none w 0)
 
-pub load_turn : (recs text w v v' : List ℕ) (i : ℕ) → (i + 1) * 16 ≤ length w → v ≡ stored w 0 (loaded recs text 0 i) → v' ≡ stored v (i * 16) (loaded_row recs text i) → v' ≡ stored w 0 (loaded recs text 0 (i + 1))
-load_turn recs text w v v' i h e f =
-    f ∙ ap (λ x. stored x (i * 16) (loaded_row recs text i)) e
+pub load_turn : (recs text w v v' : List ℕ) (i : ℕ) → i < 4096 → (i + 1) * 16 ≤ length w → v ≡ stored w 0 (loaded recs text 0 i) → v' ≡ row_stored v i (loaded_row recs text i) → v' ≡ stored w 0 (loaded recs text 0 (i + 1))
+load_turn recs text w v v' i few h e f =
+    f ∙ row_in v i (loaded_row recs text i) (omega arith) ∙ ap (λ x. stored x (i * 16) (loaded_row recs text i)) e
     ∙ then_stored w 0 (i * 16) (loaded recs text 0 i) (loaded_row recs text i) (omega (arith, loaded_length recs text i 0)) (omega (arith, loaded_row_length recs text i))
     ∙ ap (stored w 0) (sym (loaded_more recs text i 0 ∙ ap (λ j. loaded recs text 0 i ++ loaded_row recs text j) (zero-add i)))
 

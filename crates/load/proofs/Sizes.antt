@@ -1,14 +1,15 @@
 -- Text bytes as the code counts them. Assumes nothing.
-use Prim.Native.Nat.{ℕ, zero, suc, ◌+◌, ◌*◌, ◌-◌, ◌/◌, ◌%◌, ◌≤◌, ◌<◌}
+use Prim.Native.Nat.{ℕ, zero, suc, ◌+◌, ◌*◌, ◌/◌, ◌%◌, ◌≤◌, ◌<◌}
 use native.Mathlib.Omega.{arith}
-use native.Mathlib.Numerals.{add-one}
-use mathlib.Core.Path.{◌≡◌, refl, ap}
-use mathlib.Core.List.{List, []}
-use lib.ListN.{length, drop, get_or, drop_of_length-le}
-use lib.Seq.{drop-cons, drop-drop}
+use mathlib.Core.Path.{◌≡◌, refl, sym, ap, ◌∙◌}
+use mathlib.Core.Bool.{Bool, true, false, ◌&&◌}
+use lib.Dec.{leb}
+use mathlib.Core.List.{List, [], ◌∷◌}
+use lib.ListN.{length, drop, get_or}
 use borrow.Author.Tests.{le-leb, lt-leb, eq-eqb, ne_eqb}
 use Rattle.paper.specs.Bytes.{when◌then◌else◌}
 use Rattle.memory.specs.Memory.{word_at}
+use Rattle.rows.specs.View.{kept}
 use Rattle.load.specs.Load.{name_size, names_size, path_size, value_size, placed, placed_label, placed_value, loads}
 
 -- ---- names
@@ -21,38 +22,31 @@ pub name_some : (text : List ℕ) (p b : ℕ) → (p ≡ 65535 → ⊥) → b �
 unfolding name_size when◌then◌else◌
 name_some text p b h e = rw (ne_eqb p 65535 h) (ap (λ x. 1 + x) e)
 
-names_empty : (n : ℕ) → names_size n [] ≡ 0
+pub names_none : (n : ℕ) (s : List ℕ) → length s ≡ 0 → names_size n s ≡ 0
 unfolding names_size
-names_empty zero = refl
-names_empty (suc n) = refl
-
-pub names_past : (text : List ℕ) (i n : ℕ) → length text ≤ i → names_size n (drop i text) ≡ 0
-names_past text i n h = rw (drop_of_length-le text h) (names_empty n)
+names_none zero s h = refl
+names_none (suc n) [] h = refl
+names_none (suc n) (b ∷ s) h = absurd (omega arith)
 
 pub names_zero : (s : List ℕ) → names_size 0 s ≡ 0
 unfolding names_size
 names_zero s = refl
 
-pub names_go : (text : List ℕ) (i n b : ℕ) → i < length text → 0 < n → b ≡ get_or text i 0 → names_size n (drop i text) ≡ 1 + b + names_size (n - 1) (drop (i + (1 + b)) text)
+-- a name, and what is behind it
+pub names_more : (n m b : ℕ) (s names rest : List ℕ) → n ≡ suc m → s ≡ b ∷ names → rest ≡ drop b names → names_size n s ≡ 1 + b + names_size m rest
 unfolding names_size
-names_go text i zero b l h e = absurd (omega arith)
-names_go text i (suc n) b l h e =
-    let q : suc n - 1 ≡ n = omega arith in
-    let p : suc i + b ≡ i + (1 + b) = omega arith in
-    rw (q, drop-cons text i 0 l, ← e, drop-drop b (suc i) text, p)
-
-pub names_cut : (text : List ℕ) (i n b : ℕ) → i < length text → 0 < n → b ≡ get_or text i 0 → length text - i ≤ b → names_size n (drop i text) ≡ 1 + b
-names_cut text i n b l h e k = omega (arith, names_go text i n b l h e, names_past text (i + (1 + b)) (n - 1) (omega arith))
+names_more n m b s names rest h e f = rw (h, e, f)
 
 -- ---- paths and values
 
-pub path_past : (text : List ℕ) (p : ℕ) → length text ≤ p → 0 ≡ path_size (drop p text)
+pub path_none : (s : List ℕ) → length s ≡ 0 → 0 ≡ path_size s
 unfolding path_size
-path_past text p h = rw (drop_of_length-le text h)
+path_none [] h = refl
+path_none (n ∷ s) h = absurd (omega arith)
 
-pub path_some : (text : List ℕ) (p n m : ℕ) → p < length text → n ≡ get_or text p 0 → m ≡ names_size n (drop (p + 1) text) → 1 + m ≡ path_size (drop p text)
+pub path_some : (s names : List ℕ) (n m : ℕ) → s ≡ n ∷ names → m ≡ names_size n names → 1 + m ≡ path_size s
 unfolding path_size
-path_some text p n m l e f = rw (drop-cons text p 0 l, ← e, ← add-one p) (ap (λ x. 1 + x) f)
+path_some s names n m e f = rw (e, f)
 
 module _ (text : List ℕ) (k p : ℕ) where
   pub value_long : (m : ℕ) → k ≡ 4 → m ≡ word_at 2 text p → 2 + m ≡ value_size text k p
@@ -72,6 +66,10 @@ module _ (text : List ℕ) (k p : ℕ) where
   value_none e f g = rw (ne_eqb k 4 e, ne_eqb k 5 f, ne_eqb k 6 g)
 
 -- ---- places
+
+pub placed_is : (p : ℕ) → p % 32768 + 32768 ≡ placed p
+unfolding placed
+placed_is p = refl
 
 pub label_none : (p : ℕ) → p ≡ 65535 → p ≡ placed_label p
 unfolding placed_label when◌then◌else◌
@@ -93,16 +91,21 @@ pub value_text : (k v : ℕ) → 4 ≤ k → k ≤ 6 → v % 32768 + 32768 ≡ p
 unfolding placed_value placed when◌then◌else◌
 value_text k v h l = rw (le-leb 4 k h, le-leb k 6 l)
 
+module _ (k v : ℕ) {b : Bool} (e : b ≡ (leb 4 k && leb k 6)) where
+  pub value_moved : b ≡ true → placed v ≡ placed_value k v
+  unfolding placed_value when◌then◌else◌
+  value_moved h = let yes : (leb 4 k && leb k 6) ≡ true = sym e ∙ h in rw yes
+
+  pub value_stays : b ≡ false → v ≡ placed_value k v
+  unfolding placed_value when◌then◌else◌
+  value_stays h = let no : (leb 4 k && leb k 6) ≡ false = sym e ∙ h in rw no
+
 -- ---- how many rows
 
 module _ (recs w : List ℕ) where
-  pub loads_many : 4096 < length recs / 16 → 0 ≡ loads recs w
-  unfolding loads when◌then◌else◌
-  loads_many h = rw (lt-leb (length recs / 16) 4096 h)
-
-  pub loads_short : length recs / 16 ≤ 4096 → length w < length recs / 16 * 16 → 0 ≡ loads recs w
-  unfolding loads when◌then◌else◌
-  loads_short h l = rw (le-leb (length recs / 16) 4096 h, lt-leb (length recs / 16 * 16) (length w) l)
+  pub loads_kept : kept w (length recs / 16) ≡ loads recs w
+  unfolding loads kept
+  loads_kept = refl
 
   pub loads_all : length recs / 16 ≤ 4096 → length recs / 16 * 16 ≤ length w → length recs / 16 ≡ loads recs w
   unfolding loads when◌then◌else◌

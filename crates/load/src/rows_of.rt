@@ -1,88 +1,77 @@
 // The rows, one a record.
-ghost use Rattle.std.specs.Prelude.{◌≡◌, ◌*◌, ◌≤◌, ◌<◌, length};
-ghost use Rattle.memory.specs.Memory.{stored};
-ghost use Rattle.load.specs.Load.{placed_label, placed_value, size_of, loaded_row, loads, load_stored};
+ghost use Rattle.std.specs.Prelude.{◌≡◌, ◌<◌};
+ghost use Rattle.rows.specs.Change.{row_bytes};
+ghost use Rattle.load.specs.Load.{placed, placed_label, placed_value, size_of, loaded_row, loads, load_stored};
 
 use crate::size::{name_size, value_size};
-use rows::row::{depth_at, kind_at, label_at, put_row, value_at};
+use rows::row::{Row, put_row, row_at};
+use rows::search::Rows;
+use rows::text::{ELEMENT, SECOND};
 
 const RECORD: usize = 16;
 
-// As many rows as a work slice has room for.
-const ROWS: usize = 4096;
-
-// An element has no name to move.
-fn placed_label(p: u16) -> u16
-    ensures { result ≡ placed_label p }
+// A place of the table's text, as one of the second text.
+fn placed(place: u64) -> u64
+    ensures { (result ≡ placed place) × (result < 65536) }
 {
-    if p == 65535 {
-        return p;
-    }
-    p % 32768 + 32768
+    let second = SECOND as u64;
+    place % second + second
 }
 
-fn placed_value(kind: u16, v: u64) -> u64
-    ensures { result ≡ placed_value kind v }
+// An element has no name to move.
+fn placed_label(label: u16) -> u16
+    ensures { result ≡ placed_label label }
 {
-    if kind < 4 {
-        return v;
+    if usize::from(label) == ELEMENT {
+        label
+    } else {
+        placed(u64::from(label)) as u16
     }
-    if 6 < kind {
-        return v;
+}
+
+fn placed_value(row: Row) -> u64
+    ensures { result ≡ placed_value row.kind row.value }
+{
+    if row.has_text() {
+        placed(row.value)
+    } else {
+        row.value
     }
-    v % 32768 + 32768
 }
 
 // What no row can hold is cut off: no table has it.
-fn size_of(text: &[u8], p: u16, kind: u16, v: u64) -> u16
-    ensures { result ≡ size_of text.now p kind v }
+fn size_of(row: Row, text: &[u8]) -> u16
+    ensures { result ≡ size_of text.now row.label row.kind row.value }
 {
-    let size = name_size(text, p as usize) + value_size(text, kind as usize, v as usize);
-    (size % 65536) as u16
+    let name = name_size(text, usize::from(row.label));
+    let value = value_size(text, usize::from(row.kind), row.value as usize);
+    ((name + value) % 65536) as u16
 }
 
-fn load_row(recs: &[u8], text: &[u8], i: usize, w: &mut [u8])
-    requires { i < 4096 }
-    ensures { w.new ≡ stored w.old (i * 16) (loaded_row recs.now text.now i) }
+fn loaded_row(recs: &[u8], text: &[u8], i: usize) -> Row
+    ensures { row_bytes result.kind result.depth result.label result.size result.value
+        ≡ loaded_row recs.now text.now i }
 {
-    let kind = kind_at(recs, i);
-    let p = label_at(recs, i);
-    let v = value_at(recs, i);
-    let size = size_of(text, p, kind, v);
-    let depth = depth_at(recs, i);
-    put_row(
-        w,
-        i,
-        kind,
-        depth,
-        placed_label(p),
-        size,
-        placed_value(kind, v),
-    );
-}
-
-fn count(recs: &[u8], w: &[u8]) -> usize
-    ensures { (result ≡ loads recs.now w.now) × (result ≤ 4096) × (result * 16 ≤ length w.now) }
-{
-    let n = recs.len() / RECORD;
-    if ROWS < n {
-        return 0;
+    let row = row_at(recs, i);
+    Row {
+        label: placed_label(row.label),
+        size: size_of(row, text),
+        value: placed_value(row),
+        ..row
     }
-    if w.len() < n * RECORD {
-        return 0;
-    }
-    n
 }
 
-// The records of a table and its text: one row each, at the front of w.
+// The records of a table and its text: one row each, at the front of w. The answer counts the rows.
 pub fn load(recs: &[u8], text: &[u8], w: &mut [u8]) -> usize
     ensures { (w.new ≡ load_stored recs.now text.now w.old) × (result ≡ loads recs.now w.old) }
 {
-    let n = count(recs, w);
-    let mut i: usize = 0;
-    while i < n {
-        load_row(recs, text, i, w);
-        i += 1;
+    let n = Rows {
+        bytes: w,
+        count: recs.len() / RECORD,
+    }
+    .kept();
+    for i in 0..n {
+        put_row(w, i, loaded_row(recs, text, i));
     }
     n
 }

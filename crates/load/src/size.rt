@@ -1,82 +1,65 @@
 // How many text bytes a node has: those of its name, and those of its value.
-ghost use Rattle.std.specs.Prelude.{◌≡◌, ◌+◌, ◌*◌, ◌≤◌, ◌<◌, length, drop, get_or};
+ghost use Rattle.std.specs.Prelude.{◌≡◌, ◌*◌, ◌≤◌, ◌<◌, drop};
 ghost use Rattle.load.specs.Load.{name_size, names_size, path_size, value_size};
 
-use memory::get16;
+use kinds::Kind;
+use memory::{byte, get16};
+use rows::text::ELEMENT;
 
-const NONE: usize = 65535;
-
-// With its bound, which a cast does not tell.
-fn wide(b: u8) -> usize
-    ensures { (result ≡ b) × (result < 256) }
+// The bytes from a place on; past the end, none.
+fn from(text: &[u8], at: usize) -> &[u8]
+    ensures { result.now ≡ drop at text.now }
 {
-    b as usize
-}
-
-// The byte at a place; past the end, 0.
-fn byte(s: &[u8], at: usize) -> usize
-    ensures { (result ≡ get_or s.now at 0) × (result < 256) }
-{
-    if s.len() <= at {
-        return 0;
-    }
-    wide(s[at])
+    text.get(at..).unwrap_or(&[])
 }
 
 pub fn name_size(text: &[u8], place: usize) -> usize
     ensures { (result ≡ name_size text.now place) × (result ≤ 256) }
 {
-    if place == NONE {
-        return 0;
+    if place == ELEMENT {
+        0
+    } else {
+        1 + byte(text, place)
     }
-    1 + byte(text, place)
 }
 
 // A name that the text cuts off is the last.
-fn names_size(text: &[u8], at: usize, n: usize) -> usize
+fn names_size(text: &[u8], n: usize) -> usize
     requires { n < 256 }
-    ensures { (result ≡ names_size n (drop at text.now)) × (result ≤ 256 * n) }
+    ensures { (result ≡ names_size n text.now) × (result ≤ 256 * n) }
 {
-    let mut i = at;
-    let mut left = n;
-    let mut sum: usize = 0;
-    while 0 < left {
-        if text.len() <= i {
+    let mut rest = text;
+    let mut sum = 0;
+    for _ in 0..n {
+        let Some((b, names)) = rest.split_first() else {
             return sum;
-        }
-        let b = wide(text[i]);
-        sum += 1 + b;
-        if text.len() - i <= b {
-            return sum;
-        }
-        i += 1 + b;
-        left -= 1;
+        };
+        let len = usize::from(*b);
+        sum += 1 + len;
+        rest = from(names, len);
     }
     sum
 }
 
-fn path_size(text: &[u8], place: usize) -> usize
-    ensures { (result ≡ path_size (drop place text.now)) × (result ≤ 65281) }
+fn path_size(text: &[u8]) -> usize
+    ensures { (result ≡ path_size text.now) × (result ≤ 65281) }
 {
-    if text.len() <= place {
-        return 0;
+    match text.split_first() {
+        Some((n, names)) => 1 + names_size(names, usize::from(*n)),
+        None => 0,
     }
-    let n = wide(text[place]);
-    1 + names_size(text, place + 1, n)
 }
 
-// Kinds 4 and 5 have a length of two bytes before their text, kind 6 is a path; the others have no text.
+// Decimals and strings have a length of two bytes before their text, a reference is a path; the others have no text.
+// `kind` is a number and no `Kind`: `value_size` answers for any number that may come.
 pub fn value_size(text: &[u8], kind: usize, place: usize) -> usize
     ensures { (result ≡ value_size text.now kind place) × (result ≤ 65537) }
 {
-    if kind == 4 {
-        return 2 + get16(text, place) as usize;
+    if kind == Kind::Decimal as usize || kind == Kind::Text as usize {
+        2 + usize::from(get16(text, place))
+    } else if kind == Kind::Reference as usize {
+        path_size(from(text, place))
+    } else {
+        0
     }
-    if kind == 5 {
-        return 2 + get16(text, place) as usize;
-    }
-    if kind == 6 {
-        return path_size(text, place);
-    }
-    0
 }

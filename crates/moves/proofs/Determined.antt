@@ -5,9 +5,9 @@ use Rattle.moves.proofs.splice.Reads as Splice
 use Rattle.moves.proofs.lift.Reads as Lift
 
 pub record Determined : Type 0 where
-  pub splice : Determines Splice.Post (λ _ (w, (n, (i, (e, (s, (m, _)))))). w.now & n & i & e & s.now & m)
+  pub splice : Determines Splice.Post (λ _ (w, (n, (lo, (hi, (new, _))))). w.now & n & lo & hi & new.bytes.now & new.count)
       λ _ _ (w, _). w.now
-  pub lift : Determines Lift.Post (λ _ (w, (p, (e, (s, (q, (from, (to, _))))))). w.now & p & e & s.now & q & from & to)
+  pub lift : Determines Lift.Post (λ _ (w, (lo, (hi, (s, (q, (from, (to, _))))))). w.now & lo & hi & s.now & q & from & to)
       λ _ _ (_, (_, (_, (s, _)))). s.now
 
 pub determined : Determined

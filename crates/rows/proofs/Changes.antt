@@ -2,11 +2,11 @@
 use Prim.Native.Nat.{ℕ, zero, suc, ◌+◌, ◌-◌, ◌*◌, ◌≤◌, ◌<◌}
 use native.Mathlib.Omega.{arith}
 use mathlib.Core.Path.{◌≡◌, refl, sym, ap, ◌∙◌}
-use mathlib.Core.Bool.{Bool, true, false, not, ◌&&◌, false≢true}
+use mathlib.Core.Bool.{Bool, true, false, ◌&&◌, false≢true}
 use mathlib.Core.List.{List}
 use lib.ListN.{length, take, length-append}
 use lib.Dec.{leb}
-use borrow.Author.Tests.{le-leb, leb-true, not-true, not-false}
+use borrow.Author.Tests.{le-leb, leb-true}
 use Rattle.paper.specs.Bytes.{when◌then◌else◌}
 use Rattle.memory.specs.Memory.{stored, slid, part_at}
 use Rattle.memory.proofs.Laws.{stored_none, then_stored, part_in}
@@ -30,18 +30,18 @@ pub record Fits (size n i e have m : ℕ) : Type 0 where
 abbrev pub Test : ℕ → ℕ → ℕ → ℕ → ℕ → ℕ → Bool
 Test size n i e have m = leb i e && (leb e n && (leb (n + m) 4096 && (leb ((n + m) * 16) size && leb (m * 16) have)))
 
-pub fits_of : (size n i e have m : ℕ) {r : Bool} → r ≡ Test size n i e have m → not r ≡ false → Fits size n i e have m
+pub fits_of : (size n i e have m : ℕ) {r : Bool} → r ≡ Test size n i e have m → r ≡ true → Fits size n i e have m
 fits_of size n i e have m q h =
-    let a = and_true (leb i e) _ (sym q ∙ not-false _ h) in
+    let a = and_true (leb i e) _ (sym q ∙ h) in
     let b = and_true (leb e n) _ a.1 in
     let c = and_true (leb (n + m) 4096) _ b.1 in
     let d = and_true (leb ((n + m) * 16) size) _ c.1 in
     record { order = leb-true i e a.0; inside = leb-true e n b.0; few = leb-true (n + m) 4096 c.0; room = leb-true ((n + m) * 16) size d.0; given = leb-true (m * 16) have d.1 }
 
 module _ (w : List ℕ) (n i e : ℕ) (s : List ℕ) (m : ℕ) where
-  pub unfit : {r : Bool} → r ≡ Test (length w) n i e (length s) m → not r ≡ true → spliced w n i e s m ≡ w
+  pub unfit : {r : Bool} → r ≡ Test (length w) n i e (length s) m → r ≡ false → spliced w n i e s m ≡ w
   unfolding spliced fits_in when◌then◌else◌
-  unfit q h = let no : Test (length w) n i e (length s) m ≡ false = sym q ∙ not-true _ h in rw no
+  unfit q h = let no : Test (length w) n i e (length s) m ≡ false = sym q ∙ h in rw no
 
   pub fit_spliced : Fits (length w) n i e (length s) m → spliced w n i e s m ≡ stored (slid w (e * 16) ((i + m) * 16) ((n - e) * 16)) (i * 16) (take (m * 16) s)
   unfolding spliced fits_in when◌then◌else◌
@@ -65,9 +65,9 @@ pub record Lifts (size p e have q to : ℕ) : Type 0 where
 abbrev pub LiftTest : ℕ → ℕ → ℕ → ℕ → ℕ → ℕ → Bool
 LiftTest size p e have q to = leb p e && (leb e 4096 && (leb (e * 16) size && (leb (q + (e - p)) 4096 && (leb ((q + (e - p)) * 16) have && leb to 65535))))
 
-pub lifts_of : (size p e have q to : ℕ) {r : Bool} → r ≡ LiftTest size p e have q to → not r ≡ false → Lifts size p e have q to
+pub lifts_of : (size p e have q to : ℕ) {r : Bool} → r ≡ LiftTest size p e have q to → r ≡ true → Lifts size p e have q to
 lifts_of size p e have q to k h =
-    let a = and_true (leb p e) _ (sym k ∙ not-false _ h) in
+    let a = and_true (leb p e) _ (sym k ∙ h) in
     let b = and_true (leb e 4096) _ a.1 in
     let c = and_true (leb (e * 16) size) _ b.1 in
     let d = and_true (leb (q + (e - p)) 4096) _ c.1 in
@@ -82,9 +82,9 @@ lifts_of size p e have q to k h =
     }
 
 module _ (w : List ℕ) (p e : ℕ) (s : List ℕ) (q from to : ℕ) where
-  pub unlifted : {r : Bool} → r ≡ LiftTest (length w) p e (length s) q to → not r ≡ true → lift_stored w p e s q from to ≡ s
+  pub unlifted : {r : Bool} → r ≡ LiftTest (length w) p e (length s) q to → r ≡ false → lift_stored w p e s q from to ≡ s
   unfolding lift_stored lifts_in when◌then◌else◌
-  unlifted k h = let no : LiftTest (length w) p e (length s) q to ≡ false = sym k ∙ not-true _ h in rw no
+  unlifted k h = let no : LiftTest (length w) p e (length s) q to ≡ false = sym k ∙ h in rw no
 
   pub lifted_is : Lifts (length w) p e (length s) q to → lift_stored w p e s q from to ≡ stored s (q * 16) (lifted w from to p (e - p))
   unfolding lift_stored lifts_in when◌then◌else◌

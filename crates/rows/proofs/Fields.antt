@@ -2,7 +2,7 @@
 use Prim.Native.Nat.{ℕ, ◌+◌, ◌*◌, ◌≤◌, ◌<◌}
 use native.Mathlib.Numerals.{add-one}
 use native.Mathlib.Omega.{arith}
-use mathlib.Core.Path.{◌≡◌, sym, ap, ◌∙◌}
+use mathlib.Core.Path.{◌≡◌, ap, ◌∙◌}
 use mathlib.Core.List.{List, ◌++◌, append_assoc}
 use lib.ListN.{length, get_or, length-append}
 use borrow.Author.Tests.{le-leb, lt-leb}
@@ -51,12 +51,11 @@ length_row k d p m v = simp (length-append, length_little)
 next : (w u v : List ℕ) (at p : ℕ) (a : List ℕ) (n x : ℕ) → u ≡ stored w at a → v ≡ stored u p (little n x) → p ≡ at + length a → p + n ≤ length w → v ≡ stored w at (a ++ little n x)
 next w u v at p a n x e f q h = f ∙ ap (λ s. stored s p (little n x)) e ∙ then_stored w at p a (little n x) q (rw (length_little n x) h)
 
-module _ (w : List ℕ) (i k d p m v : ℕ) (few : i ≤ 4095) where
-  pub row_written : (a b c e o : List ℕ) → i * 16 + 16 ≤ length w → a ≡ stored w (i * 16) (little 2 k) → b ≡ stored a (i * 16 + 2) (little 2 d) → c ≡ stored b (i * 16 + 4) (little 2 p) → e ≡ stored c (i * 16 + 6) (little 2 m) → o ≡ stored e (i * 16 + 8) (little 8 v)
-      → o ≡ row_stored w i (row_bytes k d p m v)
+module _ (w : List ℕ) (at k d p m v : ℕ) where
+  pub row_written : (a b c e o : List ℕ) → at + 16 ≤ length w → a ≡ stored w at (little 2 k) → b ≡ stored a (at + 2) (little 2 d) → c ≡ stored b (at + 4) (little 2 p)
+      → e ≡ stored c (at + 6) (little 2 m) → o ≡ stored e (at + 8) (little 8 v) → o ≡ stored w at (row_bytes k d p m v)
   unfolding row_bytes
   row_written a b c e o h q₁ q₂ q₃ q₄ q₅ =
-      let at = i * 16 in
       let k₂ = little 2 k in
       let d₂ = little 2 d in
       let p₂ = little 2 p in
@@ -69,7 +68,7 @@ module _ (w : List ℕ) (i k d p m v : ℕ) (few : i ≤ 4095) where
       let s₃ = next w b c at (at + 4) (k₂ ++ d₂) 2 p s₂ q₃ (omega arith) (omega arith) in
       let s₄ = next w c e at (at + 6) ((k₂ ++ d₂) ++ p₂) 2 m s₃ q₄ (omega arith) (omega arith) in
       let s₅ = next w e o at (at + 8) (((k₂ ++ d₂) ++ p₂) ++ m₂) 8 v s₄ q₅ (omega arith) (omega arith) in
-      s₅ ∙ ap (stored w at) (simp append_assoc) ∙ sym (row_in w i (k₂ ++ (d₂ ++ (p₂ ++ (m₂ ++ little 8 v)))) few)
+      s₅ ∙ ap (stored w at) (simp append_assoc)
 
-  pub row_short : length w < i * 16 + 16 → row_stored w i (row_bytes k d p m v) ≡ w
-  row_short h = row_in w i (row_bytes k d p m v) few ∙ stored_out w (i * 16) (row_bytes k d p m v) (rw (length_row k d p m v) h)
+  pub row_short : length w < at + 16 → stored w at (row_bytes k d p m v) ≡ w
+  row_short h = stored_out w at (row_bytes k d p m v) (rw (length_row k d p m v) h)

@@ -1,11 +1,10 @@
 -- What is looked for among rows. Assumes nothing.
 use Rattle.std.specs.Prelude.{ℕ, suc, ◌+◌, Bool, false, ◌&&◌, List, [], ◌∷◌, drop, ltb, eqb}
+use Rattle.std.specs.Prelude as Std
 use Rattle.std.proofs.Math.Option.{Option, none, some}
 use Rattle.paper.specs.Bytes.{same, when◌then◌else◌}
 use Rattle.paper.specs.Syntax.{Name}
 use Rattle.paper.specs.Layout.{Field, number, text, Row}
-use Rattle.rows.specs.declared.search.Found.{Found}
-use Rattle.rows.specs.declared.search.Found.TheVariants.{At, Nothing}
 
 -- a label is this name's
 unfoldable pub calls : Field → Name → Bool
@@ -21,9 +20,9 @@ seek n d (x ∷ xs) i =
     seek n d xs (suc i)
 
 -- what the code answers
-abbrev pub sought : Found → Option ℕ
-sought (At i) = some i
-sought Nothing = none
+abbrev pub found : Std.Option ℕ → Option ℕ
+found (Std.Some i) = some i
+found Std.None = none
 
 -- how many rows of depth d or more come first
 unfoldable pub deeper : ℕ → List Row → ℕ

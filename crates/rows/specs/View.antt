@@ -1,13 +1,17 @@
 -- A store in lent bytes: one row of 16 bytes a node, in a table's order: kind, depth, place of the name, how many text bytes the node
 -- has in all, each u16; value u64. Texts stay where they are and are shared: a place below 32,768 is in the text t (the step list's),
 -- from there on in the text u (the starting table's). Assumes nothing.
-use Rattle.std.specs.Prelude.{ℕ, zero, suc, ◌+◌, ◌-◌, ◌*◌, ◌&&◌, List, [], ◌∷◌, length, take, drop, get_or, leb, ltb, eqb}
+use Rattle.std.specs.Prelude.{◌≡◌, ℕ, zero, suc, ◌+◌, ◌-◌, ◌*◌, ◌&&◌, List, [], ◌∷◌, length, take, drop, get_or, leb, ltb, eqb}
 use Rattle.paper.specs.Bytes.{when◌then◌else◌}
 use Rattle.paper.specs.Layout.{Field, number, text, Row, text_of}
 use Rattle.paper.specs.DecodeAt.{word}
 use Rattle.memory.specs.Memory.{part_at}
 
 -- ---- texts
+
+-- a place points to place i of the text s
+abbrev pub PointsInto : List ℕ → List ℕ → ℕ → List ℕ → ℕ → Type 0
+PointsInto t u p s i = (s ≡ when ltb p 32768 then t else u) × (i ≡ when ltb p 32768 then p else p - 32768)
 
 -- the byte at a place; 0 past the end
 unfoldable pub byte_of : List ℕ → List ℕ → ℕ → ℕ

@@ -1,23 +1,59 @@
 // One row: its numbers, and how it is written.
-ghost use Rattle.std.specs.Prelude.{◌≡◌, ◌+◌, ◌*◌, ◌≤◌, ◌<◌, length};
-ghost use Rattle.paper.specs.DecodeAt.{word};
+ghost use Rattle.std.specs.Prelude.{◌≡◌, ◌&&◌, ◌≤◌, leb};
+ghost use Rattle.memory.specs.Memory.{stored};
 ghost use Rattle.rows.specs.Change.{field_at, row_bytes, row_stored};
+ghost use Rattle.rows.specs.Row.{row_of};
 
+use kinds::Kind;
 use memory::{fits, get16, get64, put16, put64};
 
-// The index of the last row that a work slice has room for.
-const LAST: usize = 4095;
+// As many rows as a work slice has room for.
+pub const ROWS: usize = 4096;
+
+// The numbers of a row, in the order of its 16 bytes. kind is no Kind: any number may stand there (clause `row_of`).
+#[derive(Clone, Copy)]
+pub struct Row {
+    pub kind: u16,
+    pub depth: u16,
+    pub label: u16,
+    pub size: u16,
+    pub value: u64,
+}
+
+impl Row {
+    // Whether its value is the place of a text: of kinds 4 to 6.
+    pub fn has_text(self) -> bool
+        ensures { result ≡ (leb 4 self.kind && leb self.kind 6) }
+    {
+        matches!(
+            Kind::try_from(self.kind),
+            Ok(Kind::Decimal | Kind::Text | Kind::Reference)
+        )
+    }
+
+    // Its bytes at a place; where they do not all fit, none is written.
+    pub fn store(self, out: &mut [u8], at: usize)
+        ensures { out.new ≡ stored out.old at (row_bytes self.kind self.depth self.label self.size self.value) }
+    {
+        if !fits(out.len(), at, 16) {
+            return;
+        }
+        put16(out, at, self.kind);
+        put16(out, at + 2, self.depth);
+        put16(out, at + 4, self.label);
+        put16(out, at + 6, self.size);
+        put64(out, at + 8, self.value);
+    }
+}
 
 fn field(w: &[u8], i: usize, f: usize) -> u16
     requires { f ≤ 16 }
     ensures { result ≡ field_at 2 w.now i f }
 {
-    if LAST < i {
-        return 0;
-    }
-    get16(w, i * 16 + f)
+    if i < ROWS { get16(w, i * 16 + f) } else { 0 }
 }
 
+// One number of a row, for who wants no other. As methods of a struct of `w` and `i` they would be no plainer.
 pub fn kind_at(w: &[u8], i: usize) -> u16
     ensures { result ≡ field_at 2 w.now i 0 }
 {
@@ -45,41 +81,26 @@ pub fn size_at(w: &[u8], i: usize) -> u16
 pub fn value_at(w: &[u8], i: usize) -> u64
     ensures { result ≡ field_at 8 w.now i 8 }
 {
-    if LAST < i {
-        return 0;
+    if i < ROWS { get64(w, i * 16 + 8) } else { 0 }
+}
+
+pub fn row_at(w: &[u8], i: usize) -> Row
+    ensures { result ≡ row_of w.now i }
+{
+    Row {
+        kind: kind_at(w, i),
+        depth: depth_at(w, i),
+        label: label_at(w, i),
+        size: size_at(w, i),
+        value: value_at(w, i),
     }
-    get64(w, i * 16 + 8)
-}
-
-// With its bound, which a cast does not tell.
-pub(crate) fn wide(b: u8) -> usize
-    ensures { (result ≡ b) × (result < 256) }
-{
-    b as usize
-}
-
-// A number of two bytes with no loop, for those who read many rows and know that they are there.
-pub(crate) fn half(w: &[u8], at: usize) -> usize
-    requires { at + 2 ≤ length w.now }
-    ensures { (result ≡ word 2 w.now at) × (result < 65536) }
-{
-    wide(w[at]) + 256 * wide(w[at + 1])
 }
 
 // A row that does not fit is not written, not even in part.
-pub fn put_row(w: &mut [u8], i: usize, kind: u16, depth: u16, label: u16, size: u16, value: u64)
-    ensures { w.new ≡ row_stored w.old i (row_bytes kind depth label size value) }
+pub fn put_row(w: &mut [u8], i: usize, row: Row)
+    ensures { w.new ≡ row_stored w.old i (row_bytes row.kind row.depth row.label row.size row.value) }
 {
-    if LAST < i {
-        return;
+    if i < ROWS {
+        row.store(w, i * 16);
     }
-    let at = i * 16;
-    if !fits(w.len(), at, 16) {
-        return;
-    }
-    put16(w, at, kind);
-    put16(w, at + 2, depth);
-    put16(w, at + 4, label);
-    put16(w, at + 6, size);
-    put64(w, at + 8, value);
 }

@@ -1,92 +1,61 @@
 // The two texts that places point into.
-ghost use Rattle.std.specs.Prelude.{◌≡◌, ◌+◌, ◌≤◌, ◌<◌, length, take, drop, get_or};
-ghost use Rattle.paper.specs.Bytes.{same};
-ghost use Rattle.memory.specs.Memory.{part_at};
-ghost use Rattle.rows.specs.View.{byte_of, text_part, name_of, label_of};
+ghost use Rattle.std.specs.Prelude.{◌≡◌, ◌<◌};
+ghost use Rattle.rows.specs.View.{PointsInto, byte_of, text_part, name_of, label_of};
 ghost use Rattle.rows.specs.Search.{calls};
 
-use crate::row::wide;
-use memory::{fits, part};
+use memory::{byte, part};
 
 // From this place on a text is the second one's.
-const SECOND: usize = 32768;
+pub const SECOND: usize = 32768;
 
 // The place of the name that an element has not.
-const ELEMENT: usize = 65535;
+pub const ELEMENT: usize = 65535;
 
-fn byte(t: &[u8], p: usize) -> usize
-    ensures { (result ≡ get_or t.now p 0) × (result < 256) }
-{
-    if t.len() <= p {
-        return 0;
-    }
-    wide(t[p])
+// The step list's text, and from place 32,768 on the starting table's.
+#[derive(Clone, Copy)]
+pub struct Texts<'a> {
+    pub list: &'a [u8],
+    pub table: &'a [u8],
 }
 
-pub fn byte_of(t: &[u8], u: &[u8], p: usize) -> usize
-    ensures { (result ≡ byte_of t.now u.now p) × (result < 256) }
-{
-    if p < SECOND {
-        return byte(t, p);
-    }
-    byte(u, p - SECOND)
-}
-
-pub fn text_part<'a>(t: &'a [u8], u: &'a [u8], p: usize, n: usize) -> &'a [u8]
-    ensures { result.now ≡ text_part t.now u.now p n }
-{
-    if p < SECOND {
-        return part(t, p, n);
-    }
-    part(u, p - SECOND, n)
-}
-
-pub fn name_of<'a>(t: &'a [u8], u: &'a [u8], p: usize) -> &'a [u8]
-    ensures { result.now ≡ name_of t.now u.now p }
-{
-    let s = text_part(t, u, p, 1 + byte_of(t, u, p));
-    if s.len() < 1 {
-        return s;
-    }
-    &s[1..]
-}
-
-fn same_at(t: &[u8], at: usize, name: &[u8]) -> bool
-    requires { at + length name.now ≤ length t.now }
-    ensures { result ≡ same (take (length name.now) (drop at t.now)) name.now }
-{
-    let mut k = 0;
-    while k < name.len() {
-        if t[at + k] != name[k] {
-            return false;
+impl<'a> Texts<'a> {
+    // The text that a place points into, and where in it.
+    fn home(self, place: usize) -> (&'a [u8], usize)
+        ensures { PointsInto self.entry.list.now self.entry.table.now place result.0.now result.1 }
+    {
+        if place < SECOND {
+            (self.list, place)
+        } else {
+            (self.table, place - SECOND)
         }
-        k += 1;
     }
-    true
-}
 
-// The length first: most names differ there already. A name that the text cuts off counts as empty.
-fn named_in(t: &[u8], p: usize, name: &[u8]) -> bool
-    ensures { result ≡ same (drop 1 (part_at t.now p (1 + get_or t.now p 0))) name.now }
-{
-    let n = byte(t, p);
-    if !fits(t.len(), p, 1 + n) {
-        return name.len() < 1;
+    pub fn byte_of(self, place: usize) -> usize
+        ensures { (result ≡ byte_of self.entry.list.now self.entry.table.now place) × (result < 256) }
+    {
+        let (text, at) = self.home(place);
+        byte(text, at)
     }
-    if n != name.len() {
-        return false;
-    }
-    same_at(t, p + 1, name)
-}
 
-pub fn is_named(t: &[u8], u: &[u8], p: usize, name: &[u8]) -> bool
-    ensures { result ≡ calls (label_of t.now u.now p) name.now }
-{
-    if p == ELEMENT {
-        return false;
+    pub fn part(self, place: usize, len: usize) -> &'a [u8]
+        ensures { result.now ≡ text_part self.entry.list.now self.entry.table.now place len }
+    {
+        let (text, at) = self.home(place);
+        part(text, at, len)
     }
-    if p < SECOND {
-        return named_in(t, p, name);
+
+    pub fn name_of(self, place: usize) -> &'a [u8]
+        ensures { result.now ≡ name_of self.entry.list.now self.entry.table.now place }
+    {
+        match self.part(place, 1 + self.byte_of(place)) {
+            [_, name @ ..] => name,
+            none => none,
+        }
     }
-    named_in(u, p - SECOND, name)
+
+    pub fn is_named(self, place: usize, name: &[u8]) -> bool
+        ensures { result ≡ calls (label_of self.entry.list.now self.entry.table.now place) name.now }
+    {
+        place != ELEMENT && self.name_of(place) == name
+    }
 }

@@ -9,7 +9,7 @@ use lib.Seq.{drop_at, take_at, drop-drop}
 use lib.Dec.{eqb}
 use borrow.Author.Tests.{le-leb, lt-leb}
 use Rattle.paper.specs.Bytes.{when◌then◌else◌}
-use Rattle.paper.specs.Answer.{Answer, ok, refused, demand, ◌>>=◌}
+use Rattle.paper.specs.Answer.{Answer, refused, demand, ◌>>=◌}
 use Rattle.paper.specs.Syntax.{Name, Path}
 use Rattle.paper.specs.Store.{Store, ∅, entry, Value, put}
 use Rattle.paper.specs.Bounds.{bounded, assign}
@@ -22,38 +22,38 @@ use Rattle.rows.specs.Flat.{flat, flat_value, Low}
 use Rattle.rows.proofs.Groups.{groups_drop, groups_take, groups_own}
 use Rattle.rows.proofs.Views.{length_view, here_label, view_cons, view_end}
 use Rattle.rows.proofs.Trees.{head, beneath, flat_head, flat_entry, flat_none, head_label, deeper_value, low_rest, deepest_flat, text_bytes_flat, length_flat}
-use Rattle.run.specs.declared.place.Place.TheVariants.{In, Absent, NoComponent}
-use Rattle.run.specs.declared.put.Ran.{Ran}
-use Rattle.run.specs.declared.put.Ran.TheVariants.{Done, Refused}
+use Rattle.refusal.specs.declared.Reason.{Reason}
+use Rattle.run.specs.declared.size.Size.{Size}
+use Rattle.std.specs.Prelude.{Result, Ok, Err}
 use Rattle.run.specs.Paths.{Reached, DescendsFrom}
-use Rattle.run.specs.Puts.{Over, Over.too_deep, Over.too_many, Over.too_long, BoundedIs, PutsBounded, Held, RanIs, RanIs.gone, RanIs.stopped, Assigns}
+use Rattle.run.specs.Puts.{Over, Over.too_deep, Over.too_many, Over.too_long, BoundedIs, PutsBounded, Held, RanIs, Assigns}
 use Rattle.run.proofs.Walking.{rows_view}
 
 -- ---- the bounds of a store
 
-pub bounded_ran : (p : ℕ) (ys : ℕ → List Row) (s : Store) (r : Ran) → BoundedIs (flat 1 s) ys r → RanIs p ys (bounded p s) r
+pub bounded_ran : (p : ℕ) (ys : ℕ → List Row) (s : Store) (r : Result Size Reason) → BoundedIs (flat 1 s) ys r → RanIs p ys (bounded p s) r
 unfolding bounded demand ◌>>=◌
-bounded_ran p ys s (Done n tb) h =
+bounded_ran p ys s (Ok size) h =
     let a : deepest (rows 1 s) ≤ 32 = omega (arith, h.depth, deepest_flat 1 s) in
     let b : length (rows 1 s) ≤ 1024 = omega (arith, h.nodes, length_flat 1 s) in
     let c : length (texts (rows 1 s)) ≤ 16384 = omega (arith, h.short, text_bytes_flat 1 s) in
     rw (le-leb (deepest (rows 1 s)) 32 a, le-leb (length (rows 1 s)) 1024 b, le-leb (length (texts (rows 1 s))) 16384 c)
-    (gone (record { rows = h.rows; bytes = h.bytes ∙ ap text_bytes (sym h.rows); bounds = record { depth = a; nodes = b; text = c } }))
-bounded_ran p ys s (Refused k) h = go h
+    (s, refl, record { rows = h.rows; bytes = h.bytes ∙ ap text_bytes (sym h.rows); bounds = record { depth = a; nodes = b; text = c } })
+bounded_ran p ys s (Err reason) h = go h
   where
-    go : {k : ℕ} → Over (flat 1 s) k → RanIs p ys (bounded p s) (Refused k)
+    go : {k : ℕ} → Over (flat 1 s) k → bounded p s ≡ refused k p
     go (too_deep d) =
         let a : 32 < deepest (rows 1 s) = omega (arith, d, deepest_flat 1 s) in
-        rw (lt-leb (deepest (rows 1 s)) 32 a) stopped
+        rw (lt-leb (deepest (rows 1 s)) 32 a)
     go (too_many d n) =
         let a : deepest (rows 1 s) ≤ 32 = omega (arith, d, deepest_flat 1 s) in
         let b : 1024 < length (rows 1 s) = omega (arith, n, length_flat 1 s) in
-        rw (le-leb (deepest (rows 1 s)) 32 a, lt-leb (length (rows 1 s)) 1024 b) stopped
+        rw (le-leb (deepest (rows 1 s)) 32 a, lt-leb (length (rows 1 s)) 1024 b)
     go (too_long d n t) =
         let a : deepest (rows 1 s) ≤ 32 = omega (arith, d, deepest_flat 1 s) in
         let b : length (rows 1 s) ≤ 1024 = omega (arith, n, length_flat 1 s) in
         let c : 16384 < length (texts (rows 1 s)) = omega (arith, t, text_bytes_flat 1 s) in
-        rw (le-leb (deepest (rows 1 s)) 32 a, le-leb (length (rows 1 s)) 1024 b, lt-leb (length (texts (rows 1 s))) 16384 c) stopped
+        rw (le-leb (deepest (rows 1 s)) 32 a, le-leb (length (rows 1 s)) 1024 b, lt-leb (length (texts (rows 1 s))) 16384 c)
 
 -- ---- bind, and then the bounds
 
@@ -64,7 +64,7 @@ module _ (t u w s w' : List ℕ) (n m k tb : ℕ) (ns : Path) (name : Name) (cou
   held_deep : (st : Store) → Held (view t u w n) tb st → deepest (view t u w n) ≤ 32
   held_deep st h = omega (arith, ap deepest h.rows, deepest_flat 1 st, h.bounds.depth)
 
-  pub assigns : (lo : ℕ) (r : Ran) → DescendsFrom (view t u w n) 0 1 ns (In lo) → PutsBounded t u n lo (1 + k) name m tb w s w' r → Assigns t u n ns name m tb w s w' r
+  pub assigns : (lo : ℕ) (r : Result Size Reason) → DescendsFrom (view t u w n) 0 1 ns (Ok lo) → PutsBounded t u n lo (1 + k) name m tb w s w' r → Assigns t u n ns name m tb w s w' r
   unfolding assign ◌>>=◌
   assigns lo r h b st v p held ev =
       let R : Reached (view t u w n) 1 ns [] [] st lo = h [] [] st tt refl (rooted st held.rows) in
@@ -76,13 +76,9 @@ module _ (t u w s w' : List ℕ) (n m k tb : ℕ) (ns : Path) (name : Name) (cou
       ap (λ a. R.before ++ (flat a (put R.inner name v) ++ R.after)) (sym j) ∙ sym B.rows ∙ append-nil (flat 1 B.store) in
       rw B.is (bounded_ran p (view t u w') B.store r (subst (λ a. BoundedIs a (view t u w') r) y x))
 
-  pub assigns_absent : DescendsFrom (view t u w n) 0 1 ns Absent → Assigns t u n ns name m tb w s w' (Refused 14)
+  pub assigns_nowhere : (reason : Reason) → DescendsFrom (view t u w n) 0 1 ns (Err reason) → Assigns t u n ns name m tb w s w' (Err reason)
   unfolding assign ◌>>=◌
-  assigns_absent h st v p held ev = rw ((h [] [] st tt refl (rooted st held.rows)).binds p name v) stopped
-
-  pub assigns_stuck : DescendsFrom (view t u w n) 0 1 ns NoComponent → Assigns t u n ns name m tb w s w' (Refused 15)
-  unfolding assign ◌>>=◌
-  assigns_stuck h st v p held ev = rw ((h [] [] st tt refl (rooted st held.rows)).binds p name v) stopped
+  assigns_nowhere reason h st v p held ev = rw ((h [] [] st tt refl (rooted st held.rows)).binds p name v)
 
 -- ---- one attribute after another
 
@@ -100,12 +96,12 @@ copy_start t u w s n m tb ns st c p h e = record { left = c; so_far = st; held =
 nil≢cons : {x : Row} {xs : List Row} → [] ≡ x ∷ xs → ⊥
 nil≢cons e = let z : ◌≡◌ {A = ℕ} 0 1 = cc in absurd (omega arith)
 
-pub copy_ends : (t u w s : List ℕ) (n m tb j : ℕ) (ns : Path) (p : ℕ) (all : Answer Store) → m ≤ j → Mid t u w s n m tb j ns p all → RanIs p (view t u w) all (Done n tb)
+pub copy_ends : (t u w s : List ℕ) (size : Size) (m j : ℕ) (ns : Path) (p : ℕ) (all : Answer Store) → m ≤ j → Mid t u w s size.rows m size.text j ns p all → RanIs p (view t u w) all (Ok size)
 unfolding copy
-copy_ends t u w s n m tb j ns p all h M = rw M.goes (go M.left (sym (view_end t u s m j h) ∙ M.rest))
+copy_ends t u w s size m j ns p all h M = rw M.goes (go M.left (sym (view_end t u s m j h) ∙ M.rest))
   where
-    go : (c : Store) → [] ≡ flat (1 + length ns) c → RanIs p (view t u w) (copy p ns c M.so_far) (Done n tb)
-    go ∅ e = gone M.held
+    go : (c : Store) → [] ≡ flat (1 + length ns) c → RanIs p (view t u w) (copy p ns c M.so_far) (Ok size)
+    go ∅ e = (M.so_far, refl, M.held)
     go (entry x v c) e = absurd (nil≢cons (e ∙ flat_entry (1 + length ns) x v c ∙ ap (λ r. r ++ flat (1 + length ns) c) (flat_head (1 + length ns) x v)))
 
 -- the rows of a part of a slice are a part of its rows
@@ -186,18 +182,10 @@ module _ (t u w s : List ℕ) (n m tb j e k : ℕ) (ns : Path) (p : ℕ) (count 
 
   -- how the copying goes on, or stops
   module _ (name : Name) (all : Answer Store) (N : Next name all) (w' : List ℕ) where
-    pub goes_on : (rows tb' : ℕ) → RanIs p (view t u w') (assign p (ns ++ (name ∷ [])) N.value N.so_far) (Done rows tb') → Mid t u w' s rows m tb' e ns p all
+    pub goes_on : (size : Size) → RanIs p (view t u w') (assign p (ns ++ (name ∷ [])) N.value N.so_far) (Ok size) → Mid t u w' s size.rows m size.text e ns p all
     unfolding ◌>>=◌
-    goes_on rows tb' h = go (assign p (ns ++ (name ∷ [])) N.value N.so_far) refl h
-      where
-        go : (a : Answer Store) → assign p (ns ++ (name ∷ [])) N.value N.so_far ≡ a → RanIs p (view t u w') a (Done rows tb') → Mid t u w' s rows m tb' e ns p all
-        go (refused _ _) q x4 = elim x4 [ ]
-        go (ok st) q (gone g) = record { left = N.others; so_far = st; held = g; rest = N.rest; goes = N.goes ∙ ap (λ a. a >>= copy p ns N.others) q }
+    goes_on size h = record { left = N.others; so_far = h.0; held = h.2; rest = N.rest; goes = N.goes ∙ ap (λ a. a >>= copy p ns N.others) h.1 }
 
-    pub stops : (k₀ : ℕ) → RanIs p (view t u w') (assign p (ns ++ (name ∷ [])) N.value N.so_far) (Refused k₀) → RanIs p (view t u w') all (Refused k₀)
+    pub stops : (reason : Reason) → RanIs p (view t u w') (assign p (ns ++ (name ∷ [])) N.value N.so_far) (Err reason) → RanIs p (view t u w') all (Err reason)
     unfolding ◌>>=◌
-    stops k₀ h = rw N.goes (go (assign p (ns ++ (name ∷ [])) N.value N.so_far) h)
-      where
-        go : (a : Answer Store) → RanIs p (view t u w') a (Refused k₀) → RanIs p (view t u w') (a >>= copy p ns N.others) (Refused k₀)
-        go (ok _) x'' = elim x'' [ ]
-        go (refused x y) stopped = stopped
+    stops reason h = rw (N.goes, h)

@@ -23,13 +23,18 @@ use Rattle.rows.specs.Flat.{flat}
 use Rattle.rows.proofs.Trees.{Spot, Spot.absent, Spot.present, spot, deeper_flat, deeper_low, head}
 use Rattle.write.specs.Tabled.{tabled, chosen, fitted}
 use Rattle.write.proofs.Stores.{chosen_component}
-use Rattle.run.specs.declared.operation.Answer.{Answer}
-use Rattle.run.specs.declared.operation.Answer.TheVariants.{Done}
-use Rattle.run.specs.declared.operation.Answer.TheVariants.{Refused as Not}
+use Rattle.refusal.specs.Refused.{number_of}
+use Rattle.refusal.specs.declared.Reason.{Reason}
+use Rattle.refusal.specs.declared.Reason.TheVariants.{MainAbsent, MainIsNoComponent}
+use Rattle.refusal.specs.declared.Refusal.{Refusal}
+use Rattle.std.specs.Prelude.{Result, Ok, Err}
+use Rattle.run.specs.declared.wanted.Wanted.{Wanted}
+use Rattle.run.specs.declared.wanted.Wanted.TheVariants.{Whole, Main as TheMain}
 use Rattle.run.specs.Runs.{store_of, main_of, AnsweredIs, MainIs, run_main_op, runs_main}
+use Rattle.run.specs.Wanted.{wanted_of, lent, settled}
 use Rattle.run.proofs.Leading.{find_first, find_none, none≢some, first_of, Hit, Hit.hit_basic, Hit.hit_component, hit_here}
 use Rattle.run.proofs.Walking.{rows_view, sought_in, kind_here}
-use Rattle.run.proofs.Ending.{refused_is, done_is, Given, store_gives, lent, settled, rest_is}
+use Rattle.run.proofs.Ending.{whole_refused, refused_as, refused_is, done_is, Given, store_gives, run_gives, rest_is}
 
 abbrev sf_config : Name
 sf_config = bytes "sfConfig"
@@ -104,18 +109,18 @@ module _ (t u w : List ℕ) (n : ℕ) (few : n ≤ 1024) (room : 65536 ≤ lengt
   -- ---- the ways through `main_in`
 
   module _ (o : List ℕ) where
-    main_refuses : (k : ℕ) → ((s : Store) → view t u w n ≡ flat 1 s → main s ≡ refused k 0) → MainIs t u w n o o (Not k 0)
+    main_refuses : (reason : Reason) → ((s : Store) → view t u w n ≡ flat 1 s → main s ≡ refused (number_of reason) 0) → MainIs t u w n o o (Err (record { reason = reason; place = 0 }))
     unfolding main_of ◌>>=◌
-    main_refuses k h s b is = refused_is (main_of (ok s)) o k 0 (rw (h s is))
+    main_refuses reason h s b is = refused_is (main_of (ok s)) o (record { reason = reason; place = 0 }) (rw (h s is))
 
-    pub main_nothing : none ≡ seek sf_config 1 (drop 0 (rows_in t u w n)) 0 → MainIs t u w n o o (Not 19 0)
-    main_nothing e = main_refuses 19 (λ s is. main_absent s is e)
+    pub main_nothing : none ≡ seek sf_config 1 (drop 0 (rows_in t u w n)) 0 → MainIs t u w n o o (Err (record { reason = MainAbsent; place = 0 }))
+    main_nothing e = main_refuses MainAbsent (λ s is. main_absent s is e)
 
-    pub main_basic : (i : ℕ) → some i ≡ seek sf_config 1 (drop 0 (rows_in t u w n)) 0 → (field_at 2 w i 0 ≡ 0 → ⊥) → MainIs t u w n o o (Not 20 0)
-    main_basic i e nz = main_refuses 20 (λ s is. main_plain s is i e nz)
+    pub main_basic : (i : ℕ) → some i ≡ seek sf_config 1 (drop 0 (rows_in t u w n)) 0 → (field_at 2 w i 0 ≡ 0 → ⊥) → MainIs t u w n o o (Err (record { reason = MainIsNoComponent; place = 0 }))
+    main_basic i e nz = main_refuses MainIsNoComponent (λ s is. main_plain s is i e nz)
 
     pub main_inner : (i : ℕ) → some i ≡ seek sf_config 1 (drop 0 (rows_in t u w n)) 0 → field_at 2 w i 0 ≡ 0 → (end : ℕ) → end ≡ i + 1 + deeper 2 (drop (i + 1) (rows_in t u w n)) → 32792 ≤ length o
-        → (o' : List ℕ) (k : ℕ) → o' ≡ stored o 0 (tabled 1 (chosen t u w n (i + 1) end)) → k ≡ fitted (tabled 1 (chosen t u w n (i + 1) end)) o → MainIs t u w n o o' (Done k)
+        → (o' : List ℕ) (k : ℕ) → o' ≡ stored o 0 (tabled 1 (chosen t u w n (i + 1) end)) → k ≡ fitted (tabled 1 (chosen t u w n (i + 1) end)) o → MainIs t u w n o o' (Ok k)
     unfolding main_of ◌>>=◌
     main_inner i e zr end q h o' k f g s b is =
         let M = main_found s is i e zr end q in
@@ -123,11 +128,11 @@ module _ (t u w : List ℕ) (n : ℕ) (few : n ≤ 1024) (room : 65536 ≤ lengt
 
 -- ---- and through `main_of`
 
-pub mained_refused : (a : Paper.Answer Store) (o : List ℕ) (k p : ℕ) → a ≡ refused k p → AnsweredIs (main_of a) o o (Not k p)
+pub mained_refused : (a : Paper.Answer Store) (o : List ℕ) (refusal : Refusal) → a ≡ refused_as refusal → AnsweredIs (main_of a) o o (Err refusal)
 unfolding main_of ◌>>=◌
-mained_refused a o k p e = refused_is (main_of a) o k p (rw e)
+mained_refused a o refusal e = refused_is (main_of a) o refusal (rw e)
 
-pub mained : (list start t u w o o' : List ℕ) (n : ℕ) (r : Answer) → Given list start t u w n → MainIs t u w n o o' r → AnsweredIs (main_of (store_of list start)) o o' r
+pub mained : (list start t u w o o' : List ℕ) (n : ℕ) (r : Result ℕ Refusal) → Given list start t u w n → MainIs t u w n o o' r → AnsweredIs (main_of (store_of list start)) o o' r
 mained list start t u w o o' n r G M =
     subst (λ a. AnsweredIs (main_of a) o o' r) (sym G.is) (M G.store (gives_ok (store_gives list start) G.is) G.held.rows)
 
@@ -146,3 +151,12 @@ module _ (list start : List ℕ) where
   unfolding main_of
   main_gives =
       gives_bind _ (store_gives list start) (λ t h. gives_bind _ (known {P = λ _. Unit {0}} (main t) (λ c e. tt) (λ n p e. past n (main_numbers t n p h e))) (λ c _. gives tt))
+
+  pub wanted_gives : (wanted : Wanted) → Gives (λ n. 8 < n) (λ _. Unit {0}) (wanted_of wanted (store_of list start))
+  wanted_gives Whole = run_gives list start
+  wanted_gives TheMain = main_gives
+
+-- a refusal of the steps is one of what is wanted
+pub wanted_refused : (wanted : Wanted) (a : Paper.Answer Store) (o : List ℕ) (refusal : Refusal) → a ≡ refused_as refusal → AnsweredIs (wanted_of wanted a) o o (Err refusal)
+wanted_refused Whole a o refusal e = whole_refused a o refusal e
+wanted_refused TheMain a o refusal e = mained_refused a o refusal e

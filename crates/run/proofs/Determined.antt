@@ -5,29 +5,23 @@ use mathlib.Core.Path.{◌≡◌, ap}
 use mathlib.Core.List.{List}
 use Rattle.paper.specs.Lent.{Outcome}
 use Rattle.paper.specs.Determines.{Determines, ◌&◌}
-use Rattle.run.specs.Runs.{answered, outcome}
-use Rattle.run.specs.declared.operation.Answer.{Answer}
-use Rattle.run.specs.declared.operation.Answer.TheVariants.{Done, Refused}
+use Rattle.std.specs.Prelude.{Result}
+use Rattle.refusal.specs.declared.Refusal.{Refusal}
+use Rattle.run.specs.Runs.{outcome}
+use Rattle.refusal.proofs.One.{answered_one}
 use Rattle.run.proofs.operation.run.Reads as Run
-use Rattle.run.proofs.config.run_main.Reads as RunMain
+use Rattle.run.proofs.operation.run_main.Reads as RunMain
 
 pub record Returned : Type 0 where
-  pub answer : Answer
+  pub answer : Result ℕ Refusal
   pub output : List ℕ
   pub work₁ : List ℕ
   pub work₂ : List ℕ
 
-abbrev pub returned : Answer → List ℕ → List ℕ → List ℕ → Returned
+abbrev pub returned : Result ℕ Refusal → List ℕ → List ℕ → List ℕ → Returned
 returned r o v w = record { answer = r; output = o; work₁ = v; work₂ = w }
 
--- no two answers are told alike
-pub answered_one : (r r' : Answer) → answered r ≡ answered r' → r ≡ r'
-answered_one (Done n) (Done m) e = cc
-answered_one (Done n) (Refused m q) e = cc
-answered_one (Refused n p) (Done m) e = cc
-answered_one (Refused n p) (Refused m q) e = cc
-
-pub one : (r r' : Answer) (o o' v v' w w' : List ℕ) → outcome r o v w ≡ outcome r' o' v' w'
+pub one : (r r' : Result ℕ Refusal) (o o' v v' w w' : List ℕ) → outcome r o v w ≡ outcome r' o' v' w'
     → returned r o v w ≡ returned r' o' v' w'
 one r r' o o' v v' w w' e =
     let answer = answered_one r r' (ap (λ (x : Outcome). x.answer) e) in

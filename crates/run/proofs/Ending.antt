@@ -1,17 +1,17 @@
 -- From the store that the steps give to the answer, the output, and the work slices. Assumes nothing.
 use Prim.Native.Nat.{ℕ, ◌+◌, ◌-◌, ◌≤◌, ◌<◌}
 use native.Mathlib.Omega.{arith}
-use mathlib.Core.Path.{◌≡◌, refl, sym, ◌∙◌, ap, subst}
+use mathlib.Core.Path.{◌≡◌, sym, ◌∙◌, ap, subst}
 use mathlib.Core.List.{List, [], ◌∷◌, ◌++◌}
-use lib.ListN.{length, take, drop, length-append, length-drop, take-append-drop}
-use lib.Seq.{drop_at, length-take-le}
-use lib.Dec.{leb, lit≤}
+use lib.ListN.{length, drop, length-append, length-drop}
+use lib.Seq.{drop_at}
+use lib.Dec.{lit≤}
 use borrow.Author.Tests.{le-leb, lt-leb}
 use Rattle.paper.specs.Answer.{ok, refused, demand, ◌>>=◌}
 use Rattle.paper.specs.Answer as Paper
 use Rattle.paper.specs.Store.{Store}
 use Rattle.paper.specs.Meaning.{B⟦◌⟧}
-use Rattle.paper.specs.Layout.{Row, table}
+use Rattle.paper.specs.Layout.{table}
 use Rattle.paper.specs.Steps.{steps}
 use Rattle.paper.specs.Running.{run}
 use Rattle.paper.specs.WellFormed.{IsTable, IsStepList, IsBounded}
@@ -29,27 +29,22 @@ use Rattle.theorems.proofs.Laws.Wiped.{cleared_wiped, high_other}
 use Rattle.paper.specs.Bounds.{Bounded}
 use Rattle.theorems.proofs.Legal.Bounds.{of_table, evaluates, evaluates_numbers}
 use Rattle.memory.specs.Memory.{stored}
-use Rattle.memory.proofs.Laws.{clear_wiped, length_stored}
+use Rattle.memory.proofs.Laws.{clear_wiped}
 use Rattle.forms.specs.Header.{text_of}
 use Rattle.rows.specs.View.{view}
 use Rattle.write.specs.Tabled.{tabled, chosen, fitted}
 use Rattle.write.proofs.Stores.{chosen_store, table_written}
-use Rattle.run.specs.declared.block.Went.{Went}
-use Rattle.run.specs.declared.block.Went.TheVariants.{Next, Refused}
-use Rattle.run.specs.declared.operation.Answer.{Answer}
-use Rattle.run.specs.declared.operation.Answer.TheVariants.{Done}
-use Rattle.run.specs.declared.operation.Answer.TheVariants.{Refused as Not}
+use Rattle.refusal.specs.Refused.{number_of}
+use Rattle.refusal.specs.declared.Reason.TheVariants.{SliceTooShort}
+use Rattle.refusal.specs.declared.Refusal.{Refusal}
+use Rattle.run.specs.declared.block.Next.{Next}
+use Rattle.std.specs.Prelude.{Result, Ok, Err, Option, Some, None, MatchOption}
+use Rattle.std.specs.Option.{ok_or}
 use Rattle.run.specs.Puts.{Held}
-use Rattle.run.specs.Blocks.{WentIs, on, off}
 use Rattle.run.specs.Runs.{store_of, whole_of, outcome, AnsweredIs, EvaluatedIs}
+use Rattle.run.specs.Wanted.{lent, settled}
 
 -- ---- what became of the steps
-
-gone : {ys : ℕ → List Row} {next j rows bytes : ℕ} {a : Paper.Answer Store} → WentIs ys next a (Next j rows bytes) → (st : Store) × (a ≡ ok st) × Held (ys rows) bytes st
-gone (on {st} h) = (st, refl, h)
-
-halted : {ys : ℕ → List Row} {next k p : ℕ} {a : Paper.Answer Store} → WentIs ys next a (Refused k p) → a ≡ refused k p
-halted off = refl
 
 -- the store, and its rows in w
 pub record Given (list start t u w : List ℕ) (n : ℕ) : Type 0 where
@@ -59,29 +54,35 @@ pub record Given (list start t u w : List ℕ) (n : ℕ) : Type 0 where
   pub held : Held (view t u w n) bytes store
   pub few : n ≤ 1024
 
-module _ (list start w : List ℕ) (r : Went) (E : EvaluatedIs list start w r) where
-  pub given : (t u : List ℕ) (j n bytes : ℕ) → r ≡ Next j n bytes → t ≡ text_of list → u ≡ text_of start → Given list start t u w n
-  given t u j n bytes e et eu =
-      let F : EvaluatedIs list start w (Next j n bytes) = subst (EvaluatedIs list start w) e E in
-      let G = gone F.2 in
+module _ (list start w : List ℕ) (r : Result Next Refusal) (E : EvaluatedIs list start w r) where
+  pub given : (t u : List ℕ) (next : Next) → r ≡ Ok next → t ≡ text_of list → u ≡ text_of start → Given list start t u w next.size.rows
+  given t u next e et eu =
+      let F : EvaluatedIs list start w (Ok next) = subst (EvaluatedIs list start w) e E in
+      let G = F.2 in
+      let n = next.size.rows in
+      let bytes = next.size.text in
       record {
         store = G.0;
         is = G.1;
         bytes = bytes;
-        held = subst (λ x. Held (view x u w n) bytes G.0) (sym et) (subst (λ x. Held (view (text_of list) x w n) bytes G.0) (sym eu) G.2);
-        few = F.1.2;
+        held = subst (λ x. Held (view x u w n) bytes G.0) (sym et) (subst (λ x. Held (view (text_of list) x w n) bytes G.0) (sym eu) G.3);
+        few = next.size.few;
       }
 
-  pub not_given : (k p : ℕ) → r ≡ Refused k p → store_of list start ≡ refused k p
-  not_given k p e = halted (subst (EvaluatedIs list start w) e E).2
+  pub not_given : (refusal : Refusal) → r ≡ Err refusal → store_of list start ≡ refused (number_of refusal.reason) refusal.place
+  not_given refusal e = (subst (EvaluatedIs list start w) e E).2
 
 -- ---- a refusal, and a table
 
-pub refused_is : (a : Paper.Answer (List ℕ)) (o : List ℕ) (k p : ℕ) → a ≡ refused k p → AnsweredIs a o o (Not k p)
-unfolding told written
-refused_is a o k p e = (rw e, rw e)
+-- what paper says of a refusal
+abbrev pub refused_as : {A : Type 0} → Refusal → Paper.Answer A
+refused_as refusal = refused (number_of refusal.reason) refusal.place
 
-pub done_is : (a : Paper.Answer (List ℕ)) (s : Store) (b o o' : List ℕ) (k : ℕ) → a ≡ ok (table s) → b ≡ table s → Bounded s → 32792 ≤ length o → o' ≡ stored o 0 b → k ≡ fitted b o → AnsweredIs a o o' (Done k)
+pub refused_is : (a : Paper.Answer (List ℕ)) (o : List ℕ) (refusal : Refusal) → a ≡ refused_as refusal → AnsweredIs a o o (Err refusal)
+unfolding told written
+refused_is a o refusal e = (rw e, rw e)
+
+pub done_is : (a : Paper.Answer (List ℕ)) (s : Store) (b o o' : List ℕ) (k : ℕ) → a ≡ ok (table s) → b ≡ table s → Bounded s → 32792 ≤ length o → o' ≡ stored o 0 b → k ≡ fitted b o → AnsweredIs a o o' (Ok k)
 unfolding told written
 done_is a s b o o' k e q B room f g =
     let W = table_written s o B.nodes B.text room in
@@ -89,12 +90,12 @@ done_is a s b o o' k e q B room f g =
 
 -- ---- the whole table
 
-pub whole_refused : (a : Paper.Answer Store) (o : List ℕ) (k p : ℕ) → a ≡ refused k p → AnsweredIs (whole_of a) o o (Not k p)
+pub whole_refused : (a : Paper.Answer Store) (o : List ℕ) (refusal : Refusal) → a ≡ refused_as refusal → AnsweredIs (whole_of a) o o (Err refusal)
 unfolding whole_of ◌>>=◌
-whole_refused a o k p e = refused_is (whole_of a) o k p (rw e)
+whole_refused a o refusal e = refused_is (whole_of a) o refusal (rw e)
 
 pub whole_done : (list start t u w o o' : List ℕ) (n k : ℕ) → Given list start t u w n → 65536 ≤ length w → 32792 ≤ length o
-    → o' ≡ stored o 0 (tabled 0 (chosen t u w n 0 n)) → k ≡ fitted (tabled 0 (chosen t u w n 0 n)) o → AnsweredIs (whole_of (store_of list start)) o o' (Done k)
+    → o' ≡ stored o 0 (tabled 0 (chosen t u w n 0 n)) → k ≡ fitted (tabled 0 (chosen t u w n 0 n)) o → AnsweredIs (whole_of (store_of list start)) o o' (Ok k)
 unfolding whole_of ◌>>=◌
 whole_done list start t u w o o' n k G l room e f =
     let q = chosen_store t u w n G.store (omega (arith, G.few)) (omega (arith, G.few)) G.held.rows in
@@ -115,24 +116,20 @@ whole_gives a h = gives_bind _ h (λ t _. gives tt)
 
 -- ---- the lent slices
 
--- the answer where no lent slice is too short
-unfoldable pub lent : Paper.Answer (List ℕ) → ℕ → ℕ → ℕ → Paper.Answer (List ℕ)
-lent a o w₁ w₂ = demand (leb 32792 o) 8 0 >>= λ _. demand (leb 65536 w₁) 8 0 >>= λ _. demand (leb 65536 w₂) 8 0 >>= λ _. a
-
-unfoldable pub settled : Paper.Answer (List ℕ) → List ℕ → List ℕ → List ℕ → Outcome
-settled a o w₁ w₂ = let b = lent a (length o) (length w₁) (length w₂) in record { answer = told b; output = written b o; works = cleared b w₁ ∷ cleared b w₂ ∷ [] }
+abbrev pub too_short : Result ℕ Refusal
+too_short = Err (record { reason = SliceTooShort; place = 0 })
 
 module _ (a : Paper.Answer (List ℕ)) (o w₁ w₂ : List ℕ) where
-  pub output_short : length o < 32792 → ◌≡◌ {A = Outcome} (outcome (Not 8 0) o w₁ w₂) (settled a o w₁ w₂)
+  pub output_short : length o < 32792 → ◌≡◌ {A = Outcome} (outcome too_short o w₁ w₂) (settled a o w₁ w₂)
   unfolding settled lent told written cleared demand ◌>>=◌
   output_short h = rw (lt-leb 32792 (length o) h)
 
-  pub first_short : 32792 ≤ length o → length w₁ < 65536 → ◌≡◌ {A = Outcome} (outcome (Not 8 0) o w₁ w₂) (settled a o w₁ w₂)
+  pub first_short : 32792 ≤ length o → length w₁ < 65536 → ◌≡◌ {A = Outcome} (outcome too_short o w₁ w₂) (settled a o w₁ w₂)
   unfolding settled lent told written cleared demand ◌>>=◌
   first_short h l = rw (le-leb 32792 (length o) h, lt-leb 65536 (length w₁) l)
 
   module _ (h : 32792 ≤ length o) (l : 65536 ≤ length w₁) where
-    pub second_short : length w₂ < 65536 → ◌≡◌ {A = Outcome} (outcome (Not 8 0) o w₁ w₂) (settled a o w₁ w₂)
+    pub second_short : length w₂ < 65536 → ◌≡◌ {A = Outcome} (outcome too_short o w₁ w₂) (settled a o w₁ w₂)
     unfolding settled lent told written cleared demand ◌>>=◌
     second_short m = rw (le-leb 32792 (length o) h, le-leb 65536 (length w₁) l, lt-leb 65536 (length w₂) m)
 
@@ -140,7 +137,7 @@ module _ (a : Paper.Answer (List ℕ)) (o w₁ w₂ : List ℕ) where
     unfolding lent demand ◌>>=◌
     lent_long m = rw (le-leb 32792 (length o) h, le-leb 65536 (length w₁) l, le-leb 65536 (length w₂) m)
 
-    pub all_settled : 65536 ≤ length w₂ → Gives (λ n. 8 < n) (λ _. Unit {0}) a → (o' w₁' w₂' : List ℕ) (r : Answer) → AnsweredIs a o o' r → w₁' ≡ wiped w₁ → w₂' ≡ wiped w₂
+    pub all_settled : 65536 ≤ length w₂ → Gives (λ n. 8 < n) (λ _. Unit {0}) a → (o' w₁' w₂' : List ℕ) (r : Result ℕ Refusal) → AnsweredIs a o o' r → w₁' ≡ wiped w₁ → w₂' ≡ wiped w₂
         → ◌≡◌ {A = Outcome} (outcome r o' w₁' w₂') (settled a o w₁ w₂)
     unfolding settled
     all_settled m g o' w₁' w₂' r A e₁ e₂ =
@@ -149,38 +146,32 @@ module _ (a : Paper.Answer (List ℕ)) (o w₁ w₂ : List ℕ) where
         (λ i. record { answer = A.0 i; output = A.1 i; works = f₁ i ∷ f₂ i ∷ [] })
         ∙ ap (λ b. record { answer = told b; output = written b o; works = cleared b w₁ ∷ cleared b w₂ ∷ [] }) (sym (lent_long m))
 
+-- ---- an array that was lent, or the refusal in its place
+
+pub none_lent : {A : Type 0} (o : Option A) {M : Type 0} (F : A → Type 0) → MatchOption o M F → o ≡ None → M
+none_lent o {M} F m e = subst (λ x. MatchOption x M F) e m
+
+pub one_lent : {A : Type 0} (o : Option A) (M : Type 0) (F : A → Type 0) → MatchOption o M F → (x : A) → o ≡ Some x → F x
+one_lent o M F m x e = subst (λ y. MatchOption y M F) e m
+
+pub refused_so : {A : Type 0} (o : Option A) {f g : Refusal} → Err f ≡ ok_or o g → o ≡ None → f ≡ g
+refused_so o v e = cc
+
 -- ---- a work slice of which a part was lent, and that was then cleared
 
-pub part_same : (xs ys z : List ℕ) → length ys ≡ length (take 65536 xs) → length z ≡ length (ys ++ drop 65536 xs) → length z ≡ length xs
-part_same xs ys z e f =
-    let k : length (take 65536 xs) + length (drop 65536 xs) ≡ length xs = sym (length-append (take 65536 xs) (drop 65536 xs)) ∙ ap length (take-append-drop 65536 xs) in
-    f ∙ length-append ys (drop 65536 xs) ∙ ap (λ n. n + length (drop 65536 xs)) e ∙ k
-
-pub part_long : (xs : List ℕ) → 65536 ≤ length xs → 65536 ≤ length (take 65536 xs)
-part_long xs h = let l : length (take 65536 xs) ≡ 65536 = length-take-le 65536 xs h in omega arith
-
-pub part_wiped : (xs ys z : List ℕ) → 65536 ≤ length xs → length ys ≡ length (take 65536 xs) → z ≡ stored (ys ++ drop 65536 xs) 0 (zeros 65536) → z ≡ wiped xs
+part_wiped : (xs ys z : List ℕ) → 65536 ≤ length xs → length ys ≡ 65536 → z ≡ stored (ys ++ drop 65536 xs) 0 (zeros 65536) → z ≡ wiped xs
 unfolding wiped
-part_wiped xs ys z h f e =
-    let l : length ys ≡ 65536 = f ∙ length-take-le 65536 xs h in
+part_wiped xs ys z h l e =
     let y : List ℕ = ys ++ drop 65536 xs in
     let k : length y ≡ length ys + (length xs - 65536) = length-append ys (drop 65536 xs) ∙ ap (λ n. length ys + n) (length-drop 65536 xs) in
     e ∙ clear_wiped y (omega arith) ∙ ap (λ x. zeros 65536 ++ x) (drop_at ys (drop 65536 xs) 65536 l)
 
--- how much of it was lent, by what is left
-part_lent : (xs ys z : List ℕ) → 65536 ≤ length xs → length z ≡ length xs → z ≡ stored (ys ++ drop 65536 xs) 0 (zeros 65536) → length ys ≡ length (take 65536 xs)
-part_lent xs ys z h k e =
-    let f : length z ≡ length (ys ++ drop 65536 xs) = ap length e ∙ length_stored (ys ++ drop 65536 xs) 0 (zeros 65536) in
-    let g : length (ys ++ drop 65536 xs) ≡ length ys + (length xs - 65536) = length-append ys (drop 65536 xs) ∙ ap (λ n. length ys + n) (length-drop 65536 xs) in
-    let l : length (take 65536 xs) ≡ 65536 = length-take-le 65536 xs h in
-    omega arith
-
 -- both work slices so, and the answer of the part
-pub ended : (a : Paper.Answer (List ℕ)) (o w₁ w₂ : List ℕ) (x : Outcome) → settled a o w₁ w₂ ≡ x → Gives (λ n. 8 < n) (λ _. Unit {0}) a → 32792 ≤ length o → 65536 ≤ length w₁ → 65536 ≤ length w₂
-    → (o' y₁ w₁' y₂ w₂' : List ℕ) (r : Answer) → AnsweredIs a o o' r → length w₁' ≡ length w₁ → w₁' ≡ stored (y₁ ++ drop 65536 w₁) 0 (zeros 65536)
-    → length w₂' ≡ length w₂ → w₂' ≡ stored (y₂ ++ drop 65536 w₂) 0 (zeros 65536) → outcome r o' w₁' w₂' ≡ x
-ended a o w₁ w₂ x e g h l m o' y₁ w₁' y₂ w₂' r A k₁ e₁ k₂ e₂ =
-    all_settled a o w₁ w₂ h l m g o' w₁' w₂' r A (part_wiped w₁ y₁ w₁' l (part_lent w₁ y₁ w₁' l k₁ e₁) e₁) (part_wiped w₂ y₂ w₂' m (part_lent w₂ y₂ w₂' m k₂ e₂) e₂) ∙ e
+pub ended : (a : Paper.Answer (List ℕ)) (o w₁ w₂ : List ℕ) → Gives (λ n. 8 < n) (λ _. Unit {0}) a → 32792 ≤ length o → 65536 ≤ length w₁ → 65536 ≤ length w₂
+    → (o' y₁ w₁' y₂ w₂' : List ℕ) (r : Result ℕ Refusal) → AnsweredIs a o o' r → length y₁ ≡ 65536 → w₁' ≡ stored (y₁ ++ drop 65536 w₁) 0 (zeros 65536)
+    → length y₂ ≡ 65536 → w₂' ≡ stored (y₂ ++ drop 65536 w₂) 0 (zeros 65536) → outcome r o' w₁' w₂' ≡ settled a o w₁ w₂
+ended a o w₁ w₂ g h l m o' y₁ w₁' y₂ w₂' r A k₁ e₁ k₂ e₂ =
+    all_settled a o w₁ w₂ h l m g o' w₁' w₂' r A (part_wiped w₁ y₁ w₁' l k₁ e₁) (part_wiped w₂ y₂ w₂' m k₂ e₂)
 
 -- ---- run
 

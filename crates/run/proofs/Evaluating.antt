@@ -20,14 +20,16 @@ use Rattle.paper.specs.DecodeAt.{word}
 use Rattle.memory.specs.Memory.{word_at, stored}
 use Rattle.memory.proofs.Laws.{word_in, same_word, byte_stored, length_stored, word_little}
 use Rattle.rows.specs.View.{label_text}
-use Rattle.run.specs.declared.put.Ran.{Ran}
-use Rattle.run.specs.declared.block.Went.{Went}
-use Rattle.run.specs.declared.block.Went.TheVariants.{Next}
+use Rattle.refusal.specs.declared.Reason.{Reason}
+use Rattle.refusal.specs.declared.Refusal.{Refusal}
+use Rattle.run.specs.declared.size.Size.{Size}
+use Rattle.run.specs.declared.block.Next.{Next}
+use Rattle.std.specs.Prelude.{Result, Ok, Err}
 use Rattle.run.specs.Paths.{names}
-use Rattle.run.specs.Puts.{Held, RanIs, RanIs.gone, RanIs.stopped}
+use Rattle.run.specs.Puts.{Held, RanIs}
 use Rattle.run.specs.Listed.{Lies, step_field, path_count, places}
 use Rattle.run.specs.Stepping.{scope_in, Target, NamesPut}
-use Rattle.run.specs.Blocks.{Placed, KeptTo, WentIs, WentIs.on, WentIs.off, One.reference}
+use Rattle.run.specs.Blocks.{Placed, KeptTo, WentIs, One.reference}
 use Rattle.run.proofs.Lying.{Small, lies_first, lies_label, small_make, small_link, small_set}
 use Rattle.run.proofs.Placing.{length_places, path_placed, last_placed, names_kept, names_joined}
 use Rattle.run.proofs.Stepping.{word_drop}
@@ -119,27 +121,23 @@ lies_pass {list} {t} {i} {q} (x ∷ xs) ys L h =
 
 -- ---- a step's answer, with its place
 
-pub placed_is : (p : ℕ) (ys : ℕ → List Row) (next : ℕ) (a : Answer Store) (r : Ran) (p₀ : ℕ) → p₀ ≡ p → RanIs p ys a r → WentIs ys next a (Placed p₀ next r)
-placed_is p ys next a r p₀ e h = go h
-  where
-    go : {a : Answer Store} {r : Ran} → RanIs p ys a r → WentIs ys next a (Placed p₀ next r)
-    go (gone g) = on g
-    go stopped = rw e off
+pub placed_is : (p : ℕ) (ys : ℕ → List Row) (next : ℕ) (a : Answer Store) (r : Result Size Reason) (p₀ : ℕ) → p₀ ≡ p → RanIs p ys a r → WentIs ys next a (Placed p₀ next r)
+placed_is p ys next a (Ok size) p₀ e h = (h.0, h.1, refl, h.2)
+placed_is p ys next a (Err reason) p₀ e h = rw e h
+
+-- the run goes on at record j, with a store of that size
+abbrev pub next_at : ℕ → Size → Result Next Refusal
+next_at j size = Ok (record { index = j; size = size })
 
 -- what is known where the run goes on
-pub record GoesOn (ys : ℕ → List Row) (next j rows tb : ℕ) (a : Answer Store) : Type 0 where
+pub record GoesOn (ys : ℕ → List Row) (next j : ℕ) (size : Size) (a : Answer Store) : Type 0 where
   pub store : Store
   pub is : a ≡ ok store
   pub at : j ≡ next
-  pub held : Held (ys rows) tb store
+  pub held : Held (ys size.rows) size.text store
 
-pub goes_on : (ys : ℕ → List Row) (next : ℕ) (a : Answer Store) (r : Went) (j rows tb : ℕ) → r ≡ Next j rows tb → WentIs ys next a r → GoesOn ys next j rows tb a
-goes_on ys next a r j rows tb e (on {st = st} {rows = x} {text = y} G) =
-    let ej : next ≡ j = cc in
-    let ex : x ≡ rows = cc in
-    let ey : y ≡ tb = cc in
-    record { store = st; is = refl; at = sym ej; held = subst (λ z. Held (ys rows) z st) ey (subst (λ z. Held (ys z) y st) ex G) }
-goes_on ys next a r j rows tb e off = absurd (let z : ◌≡◌ {A = ℕ} 0 1 = cc in omega arith)
+pub goes_on : (ys : ℕ → List Row) (next : ℕ) (a : Answer Store) (j : ℕ) (size : Size) → WentIs ys next a (next_at j size) → GoesOn ys next j size a
+goes_on ys next a j size W = record { store = W.0; is = W.1; at = W.2; held = W.3 }
 
 -- ---- the first record of a statement
 

@@ -11,17 +11,29 @@ use Rattle.paper.specs.Store.{Store, component, find, resolve_in}
 use Rattle.paper.specs.Layout.{Row}
 use Rattle.paper.specs.DecodeAt.{word}
 use Rattle.memory.specs.Memory.{word_at}
-use Rattle.rows.specs.declared.search.Found.{Found}
-use Rattle.rows.specs.declared.search.Found.TheVariants.{At, Nothing}
+use Rattle.std.specs.Prelude as Std
 use Rattle.rows.specs.View.{name_of, groups, view, rows_in}
-use Rattle.rows.specs.Search.{seek, sought}
+use Rattle.rows.specs.Search.{seek, found}
 use Rattle.rows.specs.Flat.{flat, flat_value, Low}
 use Rattle.rows.proofs.Groups.{length_groups}
 use Rattle.rows.proofs.Trees.{Spot, Spot.absent, Spot.present, spot}
-use Rattle.run.specs.declared.place.Place.TheVariants.{In, Absent, NoComponent}
+use Rattle.refusal.specs.Refused.{number_of}
+use Rattle.refusal.specs.declared.Reason.{Reason}
+use Rattle.std.specs.Prelude.{Result, Ok, Err}
+use Rattle.std.specs.Result.{result_ok}
 use Rattle.run.specs.Paths.{names, Reached, Missing, DescendsFrom, FoundIn, FindIs, FindsFrom, FindsIn, ResolvesIn}
 use Rattle.run.proofs.Leading.{find_first, find_none, none≢some, some_is}
 use Rattle.run.proofs.Walking.{name_here, names_end, rows_view, sought_in}
+
+-- ---- what `ok` leaves of an answer
+
+pub was_ok : (r : Result ℕ Reason) (x : ℕ) → result_ok r ≡ Std.Some x → r ≡ Ok x
+was_ok (Ok y) x e = cc
+was_ok (Err y) x e = cc
+
+pub was_err : (r : Result ℕ Reason) {P : Type 0} → result_ok r ≡ Std.None → ((reason : Reason) → r ≡ Err reason → P) → P
+was_err (Ok y) e f = let z : ◌≡◌ {A = ℕ} 0 1 = cc in absurd (omega arith)
+was_err (Err y) e f = f y refl
 
 -- ---- a path's names, its last one apart
 
@@ -61,23 +73,23 @@ module _ (t u w : List ℕ) (n : ℕ) (many : n ≤ 4096) (room : n * 16 ≤ len
   abbrev xs : List Row
   xs = view t u w n
 
-  pub found_in : (lo d : ℕ) (x : Name) (o : Found) → sought o ≡ seek x d (drop lo (rows_in t u w n)) lo → FoundIn n o
-  found_in lo d x (At i) e = sought_in t u w n many room x d lo i e
-  found_in lo d x Nothing e = tt
+  pub found_in : (lo d : ℕ) (x : Name) (o : Std.Option ℕ) → found o ≡ seek x d (drop lo (rows_in t u w n)) lo → FoundIn n o
+  found_in lo d x (Std.Some i) e = sought_in t u w n many room x d lo i e
+  found_in lo d x Std.None e = tt
 
   -- ---- one name, looked for
-  child_finds : (lo d : ℕ) (x : Name) (pre q : List Row) (s : Store) → Low d q → length pre ≡ lo → xs ≡ pre ++ (flat d s ++ q) → (o : Found) → sought o ≡ seek x d (drop lo (rows_in t u w n)) lo → FindIs xs (find (x ∷ []) (component s)) o
+  child_finds : (lo d : ℕ) (x : Name) (pre q : List Row) (s : Store) → Low d q → length pre ≡ lo → xs ≡ pre ++ (flat d s ++ q) → (o : Std.Option ℕ) → found o ≡ seek x d (drop lo (rows_in t u w n)) lo → FindIs xs (find (x ∷ []) (component s)) o
   unfolding find
   child_finds lo d x pre q s low l is o h = go o (spot x d q low s lo) (h ∙ ap (λ r. seek x d r lo) look)
     where
       look : drop lo (rows_in t u w n) ≡ flat d s ++ q
       look = ap (drop lo) (rows_view t u w n many room ∙ is) ∙ drop_at pre (flat d s ++ q) lo l
 
-      go : (o : Found) → Spot x d s q lo → sought o ≡ seek x d (flat d s ++ q) lo → FindIs xs (find (x ∷ []) (component s)) o
-      go (At i) (absent f k g) e = absurd (none≢some (sym k ∙ sym e))
-      go Nothing (absent f k g) e = find_none x [] s f
-      go Nothing (present v a z f k y m g) e = absurd (none≢some (e ∙ k))
-      go (At i) (present v a z f k y m g) e =
+      go : (o : Std.Option ℕ) → Spot x d s q lo → found o ≡ seek x d (flat d s ++ q) lo → FindIs xs (find (x ∷ []) (component s)) o
+      go (Std.Some i) (absent f k g) e = absurd (none≢some (sym k ∙ sym e))
+      go Std.None (absent f k g) e = find_none x [] s f
+      go Std.None (present v a z f k y m g) e = absurd (none≢some (e ∙ k))
+      go (Std.Some i) (present v a z f k y m g) e =
           let ei : i ≡ length a + lo = some_is (e ∙ k) in (
             v,
             find_first x [] s v f,
@@ -100,13 +112,10 @@ module _ (t u w : List ℕ) (n : ℕ) (many : n ≤ 4096) (room : n * 16 ≤ len
     pub from_none : (k : ℕ) (pre q : List Row) (s : Store) → Missing k (names t u p (m - 1)) s → find r (component s) ≡ none
     from_none k pre q s h = ap (λ a. find a (component s)) (names_last t u p m some-name enough) ∙ h.finds (name_of t u (word_at 2 p ((m - 1) * 2))) []
 
-    pub from_absent : DescendsFrom xs lo d (names t u p (m - 1)) Absent → FindsFrom xs lo d r Nothing
-    from_absent h pre q s low l is = from_none 14 pre q s (h pre q s low l is)
+    pub from_nowhere : (reason : Reason) → DescendsFrom xs lo d (names t u p (m - 1)) (Err reason) → FindsFrom xs lo d r Std.None
+    from_nowhere reason h pre q s low l is = from_none (number_of reason) pre q s (h pre q s low l is)
 
-    pub from_stuck : DescendsFrom xs lo d (names t u p (m - 1)) NoComponent → FindsFrom xs lo d r Nothing
-    from_stuck h pre q s low l is = from_none 15 pre q s (h pre q s low l is)
-
-    pub from_child : (inner : ℕ) (x : Name) (o : Found) → DescendsFrom xs lo d (names t u p (m - 1)) (In inner) → x ≡ name_of t u (word_at 2 p ((m - 1) * 2)) → sought o ≡ seek x (d + (m - 1)) (drop inner (rows_in t u w n)) inner → FindsFrom xs lo d r o
+    pub from_child : (inner : ℕ) (x : Name) (o : Std.Option ℕ) → DescendsFrom xs lo d (names t u p (m - 1)) (Ok inner) → x ≡ name_of t u (word_at 2 p ((m - 1) * 2)) → found o ≡ seek x (d + (m - 1)) (drop inner (rows_in t u w n)) inner → FindsFrom xs lo d r o
     from_child inner x o h c e pre q s low l is =
         let R : Reached xs d (names t u p (m - 1)) pre q s inner = h pre q s low l is in
         let k : d + length (names t u p (m - 1)) ≡ d + (m - 1) = ap (λ a. d + a) (length_names t u p (m - 1)) in
@@ -120,13 +129,10 @@ module _ (t u w : List ℕ) (n : ℕ) (many : n ≤ 4096) (room : n * 16 ≤ len
     rooted : (s : Store) → xs ≡ flat 1 s → xs ≡ [] ++ (flat 1 s ++ [])
     rooted s e = e ∙ sym (append-nil (flat 1 s))
 
-    pub in_absent : DescendsFrom xs 0 1 ns Absent → FindsIn xs (ns ++ r) Nothing
-    in_absent h s e = none_path ns r s some-name (h [] [] s tt refl (rooted s e)).finds
+    pub in_nowhere : (reason : Reason) → DescendsFrom xs 0 1 ns (Err reason) → FindsIn xs (ns ++ r) Std.None
+    in_nowhere reason h s e = none_path ns r s some-name (h [] [] s tt refl (rooted s e)).finds
 
-    pub in_stuck : DescendsFrom xs 0 1 ns NoComponent → FindsIn xs (ns ++ r) Nothing
-    in_stuck h s e = none_path ns r s some-name (h [] [] s tt refl (rooted s e)).finds
-
-    pub in_found : (k lo : ℕ) (o : Found) → length ns ≡ k → DescendsFrom xs 0 1 ns (In lo) → FindsFrom xs lo (1 + k) r o → FindsIn xs (ns ++ r) o
+    pub in_found : (k lo : ℕ) (o : Std.Option ℕ) → length ns ≡ k → DescendsFrom xs 0 1 ns (Ok lo) → FindsFrom xs lo (1 + k) r o → FindsIn xs (ns ++ r) o
     in_found k lo o c h f s e =
         let R : Reached xs 1 ns [] [] s lo = h [] [] s tt refl (rooted s e) in
         let j : 1 + length ns ≡ 1 + k = ap (λ a. 1 + a) c in
@@ -135,19 +141,19 @@ module _ (t u w : List ℕ) (n : ℕ) (many : n ≤ 4096) (room : n * 16 ≤ len
 
   -- ---- scope after scope
   module _ (p : List ℕ) (r : Path) where
-    pub resolve_here : (k i : ℕ) → FindsIn xs (names t u p k ++ r) (At i) → ResolvesIn xs k (names t u p k) r (At i)
+    pub resolve_here : (k i : ℕ) → FindsIn xs (names t u p k ++ r) (Std.Some i) → ResolvesIn xs k (names t u p k) r (Std.Some i)
     unfolding resolve_in names groups
     resolve_here zero i h s scope e c = h s e
     resolve_here (suc k) i h s scope e c =
         let f = h s e in
         (f.0, rw (c, f.1, resolve_in), f.2)
 
-    pub resolve_ends : (k : ℕ) → k ≡ 0 → FindsIn xs (names t u p k ++ r) Nothing → ResolvesIn xs k (names t u p k) r Nothing
+    pub resolve_ends : (k : ℕ) → k ≡ 0 → FindsIn xs (names t u p k ++ r) Std.None → ResolvesIn xs k (names t u p k) r Std.None
     unfolding resolve_in names groups
     resolve_ends zero z h s scope e c = h s e
     resolve_ends (suc k) z h s scope e c = absurd (omega arith)
 
-    pub resolve_again : (k : ℕ) (o : Found) → (k ≡ 0 → ⊥) → FindsIn xs (names t u p k ++ r) Nothing → ResolvesIn xs (k - 1) (names t u p (k - 1)) r o → ResolvesIn xs k (names t u p k) r o
+    pub resolve_again : (k : ℕ) (o : Std.Option ℕ) → (k ≡ 0 → ⊥) → FindsIn xs (names t u p k ++ r) Std.None → ResolvesIn xs (k - 1) (names t u p (k - 1)) r o → ResolvesIn xs k (names t u p k) r o
     unfolding resolve_in
     resolve_again zero o z h again s scope e c = absurd (z refl)
     resolve_again (suc k) o z h again s scope e c =

@@ -14,8 +14,10 @@ use Rattle.paper.specs.Layout.{Row, table_row, kind}
 use Rattle.rows.specs.Search.{seek}
 use Rattle.rows.specs.Flat.{sized, flat, flat_value, Low}
 use Rattle.rows.proofs.Trees.{line, head, beneath, flat_head, Spot, Spot.absent, Spot.present, spot}
-use Rattle.run.specs.declared.place.Place.{Place}
-use Rattle.run.specs.declared.place.Place.TheVariants.{In, Absent, NoComponent}
+use Rattle.refusal.specs.Refused.{number_of}
+use Rattle.refusal.specs.declared.Reason.{Reason}
+use Rattle.refusal.specs.declared.Reason.TheVariants.{TargetAbsent, TargetIsNoComponent}
+use Rattle.std.specs.Prelude.{Result, Ok, Err}
 use Rattle.run.specs.Paths.{Bound, Reached, Missing, Descends}
 
 pub none≢some : {A : Type 0} {a : A} → none ≡ some a → ⊥
@@ -163,15 +165,14 @@ module _ (xs : List Row) (d : ℕ) (pre q : List Row) (s : Store) (n : Name) (ns
         finds = λ m r. finds_up m r ∙ h.finds m r;
       }
 
-  pub descends_up : (o : Place) → Descends xs (suc d) ns pre'' (z ++ q) c o → Descends xs d (n ∷ ns) pre q s o
-  descends_up (In lo) h = reached_up lo h
-  descends_up Absent h = missing_up 14 h
-  descends_up NoComponent h = missing_up 15 h
+  pub descends_up : (o : Result ℕ Reason) → Descends xs (suc d) ns pre'' (z ++ q) c o → Descends xs d (n ∷ ns) pre q s o
+  descends_up (Ok lo) h = reached_up lo h
+  descends_up (Err reason) h = missing_up (number_of reason) h
 
 -- ---- the three ways through a name, and the end of the path
 
 module _ (xs : List Row) (d : ℕ) (pre q : List Row) (s : Store) (low : Low d q) (is : xs ≡ pre ++ (flat d s ++ q)) where
-  pub ends : (lo : ℕ) → length pre ≡ lo → Descends xs d [] pre q s (In lo)
+  pub ends : (lo : ℕ) → length pre ≡ lo → Descends xs d [] pre q s (Ok lo)
   unfolding bind
   ends lo e =
       let z : d + 0 ≡ d = add-zero d in
@@ -190,7 +191,7 @@ module _ (xs : List Row) (d : ℕ) (pre q : List Row) (s : Store) (low : Low d q
     look : drop lo xs ≡ flat d s ++ q
     look = ap (λ k. drop k xs) (sym e) ∙ from_here xs d pre q s low is n ns
 
-    pub absent_here : seek n d (drop lo xs) lo ≡ none → Descends xs d (n ∷ ns) pre q s Absent
+    pub absent_here : seek n d (drop lo xs) lo ≡ none → Descends xs d (n ∷ ns) pre q s (Err TargetAbsent)
     absent_here h = go (spot n d q low s lo)
       where
         go : Spot n d s q lo → Missing 14 (n ∷ ns) s
@@ -218,7 +219,7 @@ module _ (xs : List Row) (d : ℕ) (pre q : List Row) (s : Store) (low : Low d q
             sorted (component c) f t m (is_component o) ei =
                 hit_component c a z f g (m ∙ o) l (found_rows xs d pre q s low is n ns (component c) a z t) (found_length xs d pre q s low is n ns (component c) a z t i ei ∙ omega arith)
 
-    pub stuck_here : (i : ℕ) → seek n d (drop lo xs) lo ≡ some i → (first_of (drop i xs) ≡ 0 → ⊥) → Descends xs d (n ∷ ns) pre q s NoComponent
+    pub stuck_here : (i : ℕ) → seek n d (drop lo xs) lo ≡ some i → (first_of (drop i xs) ≡ 0 → ⊥) → Descends xs d (n ∷ ns) pre q s (Err TargetIsNoComponent)
     stuck_here i h nz = go (hit_here i h)
       where
         go : Hit i → Missing 15 (n ∷ ns) s
@@ -226,7 +227,7 @@ module _ (xs : List Row) (d : ℕ) (pre q : List Row) (s : Store) (low : Low d q
         go (hit_component c a z f g o l r k) = absurd (nz o)
 
     -- the path's other names, from the component that was found
-    pub on_from_here : (i : ℕ) (o : Place) → seek n d (drop lo xs) lo ≡ some i → first_of (drop i xs) ≡ 0
+    pub on_from_here : (i : ℕ) (o : Result ℕ Reason) → seek n d (drop lo xs) lo ≡ some i → first_of (drop i xs) ≡ 0
         → ((pre q : List Row) (s : Store) → Low (suc d) q → length pre ≡ i + 1 → xs ≡ pre ++ (flat (suc d) s ++ q) → Descends xs (suc d) ns pre q s o) → Descends xs d (n ∷ ns) pre q s o
     on_from_here i o h z again = go (hit_here i h)
       where

@@ -134,12 +134,6 @@ module _ {list t : List ℕ} {i p : ℕ} {x : Row} {xs : List Row} where
       (figure_low 18446744073709551616 (p + length (text_of x.label)) x.value t (texts xs) S.value (lies_value L) h (omega arith))
 
   -- it lies in the list wholly
-  pub lies_in : Lies list t i p (x ∷ xs) → Small x → i * 20 + 20 ≤ length list
-  lies_in L S =
-      let r = row_bytes p x in
-      let m = records (p + length (row_text x)) xs in
-      omega (arith, sym (length-drop (i * 20) list) ∙ ap length (lies_record L) ∙ length-append r m, length_small list i p x m S (lies_record L))
-
   pub lies_next : Lies list t i p (x ∷ xs) → Small x → Lies list t (i + 1) (p + length (row_text x)) xs
   lies_next L S =
       let m = records (p + length (row_text x)) xs in
@@ -159,9 +153,6 @@ pub texts-++ : (xs ys : List Row) → texts (xs ++ ys) ≡ texts xs ++ texts ys
 unfolding texts
 texts-++ [] ys = refl
 texts-++ (x ∷ xs) ys = ap (λ r. row_text x ++ r) (texts-++ xs ys) ∙ sym (append_assoc (row_text x) (texts xs) (texts ys))
-
-pub lies_front : {list t : List ℕ} {i p : ℕ} (xs ys : List Row) → Lies list t i p (xs ++ ys) → drop p t ≡ texts xs ++ texts ys
-lies_front xs ys L = L.text_there ∙ texts-++ xs ys
 
 lies_at : {list t : List ℕ} {i j p q : ℕ} {xs : List Row} → i ≡ j → p ≡ q → Lies list t i p xs → Lies list t j q xs
 lies_at {list} {t} {i} {j} {p} {q} {xs} e f L = subst (λ k. Lies list t k q xs) e (subst (λ k. Lies list t i k xs) f L)

@@ -67,14 +67,6 @@ put_turn t w v v' q at i x h d e f =
 pub put_end : (t w v : List ℕ) (q at i n : ℕ) → i ≤ n → (i < n → ⊥) → v ≡ stored w at (places t q i) → v ≡ stored w at (places t q n)
 put_end t w v q at i n l h e = let k : i ≡ n = omega arith in e ∙ ap (λ j. stored w at (places t q j)) k
 
-pub few_names : (t : List ℕ) (p n : ℕ) → n ≡ get_or t p 0 → n < 32 → n ≡ path_count t p
-unfolding path_count
-few_names t p n e h = omega arith
-
-pub all_names : (t : List ℕ) (p n : ℕ) → n ≡ get_or t p 0 → 32 ≤ n → 32 ≡ path_count t p
-unfolding path_count
-all_names t p n e h = omega arith
-
 -- ---- names where they stand
 
 pub label_there : (t u : List ℕ) (q : ℕ) (n : Name) (more : List ℕ) → q < 32768 → drop q t ≡ name_text n ++ more → label_text t u q ≡ name_text n

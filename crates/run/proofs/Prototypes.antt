@@ -17,14 +17,16 @@ use Rattle.paper.specs.StepLayout.{step_row, step_rows, all_rows}
 use Rattle.paper.specs.WellFormed.{IsBlock, IsStatement, ArePrototypes}
 use Rattle.theorems.proofs.Laws.Answers.{assoc}
 use Rattle.rows.specs.View.{view}
-use Rattle.run.specs.declared.put.Ran.{Ran}
-use Rattle.run.specs.declared.block.Went.TheVariants.{Next, Refused}
+use Rattle.refusal.specs.declared.Reason.{Reason}
+use Rattle.refusal.specs.declared.Refusal.{Refusal}
+use Rattle.run.specs.declared.size.Size.{Size}
+use Rattle.std.specs.Prelude.{Result, Err}
 use Rattle.run.specs.Puts.{Held}
 use Rattle.run.specs.Listed.{Lies, step_field}
 use Rattle.run.specs.Stepping.{scope_in, Takes}
-use Rattle.run.specs.Blocks.{begins_statement, begins_prototype, Placed, WentIs, WentIs.on, WentIs.off, Stops, StatementsAre, One, One.reference, One.braces, PrototypeIs}
+use Rattle.run.specs.Blocks.{begins_statement, begins_prototype, Placed, WentIs, Stops, StatementsAre, One, One.reference, One.braces, PrototypeIs}
 use Rattle.run.proofs.Lying.{Small, lies_first, lies_next, lies_end, small_take, small_enter, small_leave, small_done}
-use Rattle.run.proofs.Evaluating.{all_rows-++, one_step, Long, long-++, long_steps, lies_few, lies_pass, code, placed_is, place_small, goes_on, first}
+use Rattle.run.proofs.Evaluating.{all_rows-++, one_step, Long, long-++, long_steps, lies_few, lies_pass, code, placed_is, place_small, next_at, goes_on, first}
 
 -- ---- records of a prototype
 
@@ -90,7 +92,7 @@ ok_right (ok s) = refl
 ok_right (refused k p) = refl
 
 module _ (list t u s w w' : List ℕ) (i n tb k own : ℕ) (hl : length list ≤ 20480) (hi : i < 1024) where
-  pub prototype_take : (ran : Ran) → step_field 2 list i 0 ≡ 2 → Takes list i t u n tb k own s w w' ran → PrototypeIs list i t u n tb k own s w w' (Placed (step_field 4 list i 16) (i + 1) ran)
+  pub prototype_take : (ran : Result Size Reason) → step_field 2 list i 0 ≡ 2 → Takes list i t u n tb k own s w w' ran → PrototypeIs list i t u n tb k own s w w' (Placed (step_field 4 list i 16) (i + 1) ran)
   unfolding P⟦◌⟧
   prototype_take ran e2 R εᴾ q rest st x5 g L h held = elim x5 [ ]
   prototype_take ran e2 R (named p l (named _ _ _)) q rest st x15 g L h held = elim x15 [ ]
@@ -108,31 +110,27 @@ module _ (list t u s w w' : List ℕ) (i n tb k own : ℕ) (hl : length list ≤
   not_take : (step_field 2 list i 0 ≡ 2 → ⊥) → (p : ℕ) (l : Path) (q : ℕ) (rest : List Row) → p < 32768 → length t ≤ 32768 → Lies list t i q (all_rows (prototype_steps (named p l εᴾ)) ++ rest) → ⊥
   not_take n2 p l q rest hp h L = n2 (take_first rest p l hp h (subst (Lies list t i q) (take_rows p l rest) L)).0
 
-  pub block_refused : (x y : ℕ) → (step_field 2 list i 0 ≡ 2 → ⊥) → StatementsAre list (i + 1) t u n tb own s w w' (Refused x y) → PrototypeIs list i t u n tb k own s w w' (Refused x y)
+  pub block_refused : (refusal : Refusal) → (step_field 2 list i 0 ≡ 2 → ⊥) → StatementsAre list (i + 1) t u n tb own s w w' (Err refusal) → PrototypeIs list i t u n tb k own s w w' (Err refusal)
   unfolding P⟦◌⟧ ◌>>=◌
-  block_refused x y n2 R εᴾ q rest st x6 g L h held = elim x6 [ ]
-  block_refused x y n2 R (named p l (named _ _ _)) q rest st x16 g L h held = elim x16 [ ]
-  block_refused x y n2 R (named p l (block _ _)) q rest st x16 g L h held = elim x16 [ ]
-  block_refused x y n2 R (block b (named _ _ _)) q rest st x17 g L h held = elim x17 [ ]
-  block_refused x y n2 R (block b (block _ _)) q rest st x17 g L h held = elim x17 [ ]
-  block_refused x y n2 R (named p l εᴾ) q rest st reference g L h held = absurd (not_take n2 p l q rest g.0 h L)
-  block_refused x y n2 R (block b εᴾ) q rest st braces g L h held =
+  block_refused refusal n2 R εᴾ q rest st x6 g L h held = elim x6 [ ]
+  block_refused refusal n2 R (named p l (named _ _ _)) q rest st x16 g L h held = elim x16 [ ]
+  block_refused refusal n2 R (named p l (block _ _)) q rest st x16 g L h held = elim x16 [ ]
+  block_refused refusal n2 R (block b (named _ _ _)) q rest st x17 g L h held = elim x17 [ ]
+  block_refused refusal n2 R (block b (block _ _)) q rest st x17 g L h held = elim x17 [ ]
+  block_refused refusal n2 R (named p l εᴾ) q rest st reference g L h held = absurd (not_take n2 p l q rest g.0 h L)
+  block_refused refusal n2 R (block b εᴾ) q rest st braces g L h held =
       let N = enter_next _ (subst (Lies list t i q) (block_rows b rest) L) in
-      go (B⟦ b ⟧ (scope_in t u s own) st) (R b N.0 (step_rows Steps.leave ++ rest) st g.0 N.1 (leave_stops rest) h held)
-    where
-      go : (a : Answer Store) → WentIs (view t u w') (i + 1 + length (all_rows (steps b))) a (Refused x y) → WentIs (view t u w') (i + length (all_rows (prototype_steps (block b εᴾ)))) (a >>= λ z. ok z) (Refused x y)
-      go (ok _) x9 = elim x9 [ ]
-      go (refused x y) off = off
+      rw (R b N.0 (step_rows Steps.leave ++ rest) st g.0 N.1 (leave_stops rest) h held)
 
-  pub block_on : (j rows tb' next : ℕ) → (step_field 2 list i 0 ≡ 2 → ⊥) → StatementsAre list (i + 1) t u n tb own s w w' (Next j rows tb') → (j < 1024 → next ≡ j + 1) → PrototypeIs list i t u n tb k own s w w' (Next next rows tb')
+  pub block_on : (j next : ℕ) (size : Size) → (step_field 2 list i 0 ≡ 2 → ⊥) → StatementsAre list (i + 1) t u n tb own s w w' (next_at j size) → (j < 1024 → next ≡ j + 1) → PrototypeIs list i t u n tb k own s w w' (next_at next size)
   unfolding P⟦◌⟧ ◌>>=◌
-  block_on j rows tb' next n2 R en εᴾ q rest st x5 g L h held = elim x5 [ ]
-  block_on j rows tb' next n2 R en (named p l (named _ _ _)) q rest st x15 g L h held = elim x15 [ ]
-  block_on j rows tb' next n2 R en (named p l (block _ _)) q rest st x15 g L h held = elim x15 [ ]
-  block_on j rows tb' next n2 R en (block b (named _ _ _)) q rest st x16 g L h held = elim x16 [ ]
-  block_on j rows tb' next n2 R en (block b (block _ _)) q rest st x16 g L h held = elim x16 [ ]
-  block_on j rows tb' next n2 R en (named p l εᴾ) q rest st reference g L h held = absurd (not_take n2 p l q rest g.0 h L)
-  block_on j rows tb' next n2 R en (block b εᴾ) q rest st braces g L h held =
+  block_on j next size n2 R en εᴾ q rest st x5 g L h held = elim x5 [ ]
+  block_on j next size n2 R en (named p l (named _ _ _)) q rest st x15 g L h held = elim x15 [ ]
+  block_on j next size n2 R en (named p l (block _ _)) q rest st x15 g L h held = elim x15 [ ]
+  block_on j next size n2 R en (block b (named _ _ _)) q rest st x16 g L h held = elim x16 [ ]
+  block_on j next size n2 R en (block b (block _ _)) q rest st x16 g L h held = elim x16 [ ]
+  block_on j next size n2 R en (named p l εᴾ) q rest st reference g L h held = absurd (not_take n2 p l q rest g.0 h L)
+  block_on j next size n2 R en (block b εᴾ) q rest st braces g L h held =
       let N = enter_next _ (subst (Lies list t i q) (block_rows b rest) L) in
       go (B⟦ b ⟧ (scope_in t u s own) st) (R b N.0 (step_rows Steps.leave ++ rest) st g.0 N.1 (leave_stops rest) h held) (leave_in b rest N.0 N.1)
     where
@@ -142,11 +140,11 @@ module _ (list t u s w w' : List ℕ) (i n tb k own : ℕ) (hl : length list ≤
           let f = lies_few (all_rows (steps b) ++ step_rows Steps.leave) rest (subst (Lies list t (i + 1) q) e L) (long-++ (all_rows (steps b)) (step_rows Steps.leave) (long_steps (steps b)) long_leave) hl (omega arith) in
           omega (arith, f, length-append (all_rows (steps b)) (step_rows Steps.leave), leave_one)
 
-      go : (a : Answer Store) → WentIs (view t u w') (i + 1 + length (all_rows (steps b))) a (Next j rows tb') → i + 1 + length (all_rows (steps b)) < 1024 → WentIs (view t u w') (i + length (all_rows (prototype_steps (block b εᴾ)))) (a >>= λ z. ok z) (Next next rows tb')
+      go : (a : Answer Store) → WentIs (view t u w') (i + 1 + length (all_rows (steps b))) a (next_at j size) → i + 1 + length (all_rows (steps b)) < 1024 → WentIs (view t u w') (i + length (all_rows (prototype_steps (block b εᴾ)))) (a >>= λ z. ok z) (next_at next size)
       go a W lj =
-          let G = goes_on (view t u w') (i + 1 + length (all_rows (steps b))) a (Next j rows tb') j rows tb' refl W in
+          let G = goes_on (view t u w') (i + 1 + length (all_rows (steps b))) a j size W in
           let c : i + length (all_rows (prototype_steps (block b εᴾ))) ≡ next = sym (en (omega (arith, G.at, lj)) ∙ omega (arith, G.at, block_length b)) in
-          rw G.is (subst (λ y. WentIs (view t u w') (i + length (all_rows (prototype_steps (block b εᴾ)))) (ok G.store) (Next y rows tb')) c (on G.held))
+          rw G.is (subst (λ y. WentIs (view t u w') (i + length (all_rows (prototype_steps (block b εᴾ)))) (ok G.store) (next_at y size)) c (G.store, refl, refl, G.held))
 
 -- ---- statement after statement
 
@@ -195,13 +193,13 @@ pub block_starts : (list t u w : List ℕ) (i n tb : ℕ) (ns : Path) (b : Block
     → MidBlock list t u w i n tb ns rest (B⟦ b ⟧ ns st) (i + length (all_rows (steps b)))
 block_starts list t u w i n tb ns b q rest st g L held = record { left = b; at = q; so_far = st; legal = g; lies = L; held = held; goes = refl; reach = refl }
 
-module _ (list t u w : List ℕ) (i n tb : ℕ) (ns : Path) (rest : List Row) (all : Answer Store) (next : ℕ) (h : length t ≤ 32768) (hl : length list ≤ 20480) (hi : i ≤ 1024) (stops : Stops rest) where
-  pub block_ends : begins_statement (step_field 2 list i 0) ≡ false → MidBlock list t u w i n tb ns rest all next → WentIs (view t u w) next all (Next i n tb)
+module _ (list t u w : List ℕ) (i : ℕ) (size : Size) (ns : Path) (rest : List Row) (all : Answer Store) (next : ℕ) (h : length t ≤ 32768) (hl : length list ≤ 20480) (hi : i ≤ 1024) (stops : Stops rest) where
+  pub block_ends : begins_statement (step_field 2 list i 0) ≡ false → MidBlock list t u w i size.rows size.text ns rest all next → WentIs (view t u w) next all (next_at i size)
   unfolding B⟦◌⟧ steps all_rows
   block_ends e M = rw M.goes (go M.left M.legal M.lies M.reach)
     where
-      go : (b : Block) → IsBlock b → Lies list t i M.at (all_rows (steps b) ++ rest) → i + length (all_rows (steps b)) ≡ next → WentIs (view t u w) next (B⟦ b ⟧ ns M.so_far) (Next i n tb)
-      go εᴮ g L r = subst (λ y. WentIs (view t u w) next (ok M.so_far) (Next y n tb)) (sym r ∙ add-zero i) (on M.held)
+      go : (b : Block) → IsBlock b → Lies list t i M.at (all_rows (steps b) ++ rest) → i + length (all_rows (steps b)) ≡ next → WentIs (view t u w) next (B⟦ b ⟧ ns M.so_far) (next_at i size)
+      go εᴮ g L r = subst (λ y. WentIs (view t u w) next (ok M.so_far) (next_at y size)) (sym r ∙ add-zero i) (M.so_far, refl, refl, M.held)
       go (a ∷ᴮ b) g L r =
           let L₁ = subst (Lies list t i M.at) (block_first a b rest) L in
           absurd (false≢true (sym e ∙ begins_first list t i M.at a (all_rows (steps b) ++ rest) h hl (record_in list t i M.at a (all_rows (steps b) ++ rest) hl hi L₁) g.0 L₁))
@@ -215,11 +213,11 @@ module _ (list t u w : List ℕ) (i n tb : ℕ) (ns : Path) (rest : List Row) (a
     pub legal : IsStatement one
     pub legal_others : IsBlock others
     pub lies : Lies list t i at (all_rows (statement_steps one) ++ (all_rows (steps others) ++ rest))
-    pub held : Held (view t u w n) tb so_far
+    pub held : Held (view t u w size.rows) size.text so_far
     pub goes : all ≡ A⟦ one ⟧ ns so_far >>= B⟦ others ⟧ ns
     pub reach : i + length (all_rows (statement_steps one)) + length (all_rows (steps others)) ≡ next
 
-  pub next_statement : begins_statement (step_field 2 list i 0) ≡ true → MidBlock list t u w i n tb ns rest all next → NextStatement
+  pub next_statement : begins_statement (step_field 2 list i 0) ≡ true → MidBlock list t u w i size.rows size.text ns rest all next → NextStatement
   unfolding B⟦◌⟧ steps all_rows
   next_statement e M = go M.left M.legal M.lies M.goes M.reach
     where
@@ -240,32 +238,25 @@ module _ (list t u w : List ℕ) (i n tb : ℕ) (ns : Path) (rest : List Row) (a
           }
 
   module _ (N : NextStatement) (w' : List ℕ) where
-    pub statement_goes : (j rows tb' : ℕ) → WentIs (view t u w') (i + length (all_rows (statement_steps N.one))) (A⟦ N.one ⟧ ns N.so_far) (Next j rows tb') → MidBlock list t u w' j rows tb' ns rest all next
+    pub statement_goes : (j : ℕ) (size' : Size) → WentIs (view t u w') (i + length (all_rows (statement_steps N.one))) (A⟦ N.one ⟧ ns N.so_far) (next_at j size') → MidBlock list t u w' j size'.rows size'.text ns rest all next
     unfolding ◌>>=◌
-    statement_goes j rows tb' W = go (A⟦ N.one ⟧ ns N.so_far) refl W
-      where
-        go : (a : Answer Store) → A⟦ N.one ⟧ ns N.so_far ≡ a → WentIs (view t u w') (i + length (all_rows (statement_steps N.one))) a (Next j rows tb') → MidBlock list t u w' j rows tb' ns rest all next
-        go a e W =
-            let G = goes_on (view t u w') (i + length (all_rows (statement_steps N.one))) a (Next j rows tb') j rows tb' refl W in
-            let P = lies_pass (all_rows (statement_steps N.one)) (all_rows (steps N.others) ++ rest) N.lies (long_steps (statement_steps N.one)) in
-            record {
-              left = N.others;
-              at = P.0;
-              so_far = G.store;
-              legal = N.legal_others;
-              lies = subst (λ y. Lies list t y P.0 (all_rows (steps N.others) ++ rest)) (sym G.at) P.1;
-              held = G.held;
-              goes = N.goes ∙ ap (λ a. a >>= B⟦ N.others ⟧ ns) (e ∙ G.is);
-              reach = omega (arith, G.at, N.reach);
-            }
+    statement_goes j size' W =
+        let G = goes_on (view t u w') (i + length (all_rows (statement_steps N.one))) (A⟦ N.one ⟧ ns N.so_far) j size' W in
+        let P = lies_pass (all_rows (statement_steps N.one)) (all_rows (steps N.others) ++ rest) N.lies (long_steps (statement_steps N.one)) in
+        record {
+          left = N.others;
+          at = P.0;
+          so_far = G.store;
+          legal = N.legal_others;
+          lies = subst (λ y. Lies list t y P.0 (all_rows (steps N.others) ++ rest)) (sym G.at) P.1;
+          held = G.held;
+          goes = N.goes ∙ ap (λ a. a >>= B⟦ N.others ⟧ ns) G.is;
+          reach = omega (arith, G.at, N.reach);
+        }
 
-    pub statement_stops : (x y : ℕ) → WentIs (view t u w') (i + length (all_rows (statement_steps N.one))) (A⟦ N.one ⟧ ns N.so_far) (Refused x y) → WentIs (view t u w') next all (Refused x y)
+    pub statement_stops : (refusal : Refusal) → WentIs (view t u w') (i + length (all_rows (statement_steps N.one))) (A⟦ N.one ⟧ ns N.so_far) (Err refusal) → WentIs (view t u w') next all (Err refusal)
     unfolding ◌>>=◌
-    statement_stops x y W = rw N.goes (go (A⟦ N.one ⟧ ns N.so_far) W)
-      where
-        go : (a : Answer Store) → WentIs (view t u w') (i + length (all_rows (statement_steps N.one))) a (Refused x y) → WentIs (view t u w') next (a >>= B⟦ N.others ⟧ ns) (Refused x y)
-        go (ok _) x3 = elim x3 [ ]
-        go (refused x y) off = off
+    statement_stops refusal W = rw (N.goes, W)
 
 -- ---- prototype after prototype
 
@@ -320,7 +311,7 @@ block_means : (b : Block) (ps : Prototypes) (ns own : Path) (st : Store) → P�
 unfolding P⟦◌⟧ ◌>>=◌
 block_means b ps ns own st = sym (assoc (B⟦ b ⟧ own st) (λ s. ok s) (P⟦ ps ⟧ ns own))
 
-module _ (list t u w : List ℕ) (i n tb : ℕ) (ns own : Path) (rest : List Row) (all : Answer Store) (next : ℕ) (h : length t ≤ 32768) (hl : length list ≤ 20480) (hi : i ≤ 1024) where
+module _ (list t u w : List ℕ) (i : ℕ) (size : Size) (ns own : Path) (rest : List Row) (all : Answer Store) (next : ℕ) (h : length t ≤ 32768) (hl : length list ≤ 20480) (hi : i ≤ 1024) where
   pub record NextPrototype : Type 0 where
     pub one : Prototypes
     pub single : One one
@@ -330,11 +321,11 @@ module _ (list t u w : List ℕ) (i n tb : ℕ) (ns own : Path) (rest : List Row
     pub legal : ArePrototypes one
     pub legal_others : ArePrototypes others
     pub lies : Lies list t i at (all_rows (prototype_steps one) ++ (all_rows (prototype_steps others ++ (Steps.done ∷ [])) ++ rest))
-    pub held : Held (view t u w n) tb so_far
+    pub held : Held (view t u w size.rows) size.text so_far
     pub goes : all ≡ P⟦ one ⟧ ns own so_far >>= P⟦ others ⟧ ns own
     pub reach : i + length (all_rows (prototype_steps one)) + length (all_rows (prototype_steps others ++ (Steps.done ∷ []))) ≡ next
 
-  pub next_prototype : begins_prototype (step_field 2 list i 0) ≡ true → MidPrototypes list t u w i n tb ns own rest all next → NextPrototype
+  pub next_prototype : begins_prototype (step_field 2 list i 0) ≡ true → MidPrototypes list t u w i size.rows size.text ns own rest all next → NextPrototype
   next_prototype e M = go M.left M.legal M.lies M.goes M.reach
     where
       go : (ps : Prototypes) → ArePrototypes ps → Lies list t i M.at (all_rows (prototype_steps ps ++ (Steps.done ∷ [])) ++ rest) → all ≡ P⟦ ps ⟧ ns own M.so_far → i + length (all_rows (prototype_steps ps ++ (Steps.done ∷ []))) ≡ next → NextPrototype
@@ -371,15 +362,15 @@ module _ (list t u w : List ℕ) (i n tb : ℕ) (ns own : Path) (rest : List Row
             reach = omega (arith, split_length (block b ps) (block b εᴾ) ps (block_split b ps), r);
           }
 
-  pub prototypes_end : (x : ℕ) → begins_prototype (step_field 2 list i 0) ≡ false → (i < 1024 → x ≡ i + 1) → MidPrototypes list t u w i n tb ns own rest all next → WentIs (view t u w) next all (Next x n tb)
+  pub prototypes_end : (x : ℕ) → begins_prototype (step_field 2 list i 0) ≡ false → (i < 1024 → x ≡ i + 1) → MidPrototypes list t u w i size.rows size.text ns own rest all next → WentIs (view t u w) next all (next_at x size)
   unfolding P⟦◌⟧
   prototypes_end x e ex M = rw M.goes (go M.left M.legal M.lies M.reach)
     where
-      go : (ps : Prototypes) → ArePrototypes ps → Lies list t i M.at (all_rows (prototype_steps ps ++ (Steps.done ∷ [])) ++ rest) → i + length (all_rows (prototype_steps ps ++ (Steps.done ∷ []))) ≡ next → WentIs (view t u w) next (P⟦ ps ⟧ ns own M.so_far) (Next x n tb)
+      go : (ps : Prototypes) → ArePrototypes ps → Lies list t i M.at (all_rows (prototype_steps ps ++ (Steps.done ∷ [])) ++ rest) → i + length (all_rows (prototype_steps ps ++ (Steps.done ∷ []))) ≡ next → WentIs (view t u w) next (P⟦ ps ⟧ ns own M.so_far) (next_at x size)
       go εᴾ g L r =
           let f = lies_few (all_rows (prototype_steps εᴾ ++ (Steps.done ∷ []))) rest L (long_steps (prototype_steps εᴾ ++ (Steps.done ∷ []))) hl hi in
           let c : next ≡ x = sym r ∙ omega (arith, done_length) ∙ sym (ex (omega (arith, f, done_length))) in
-          subst (λ y. WentIs (view t u w) next (ok M.so_far) (Next y n tb)) c (on M.held)
+          subst (λ y. WentIs (view t u w) next (ok M.so_far) (next_at y size)) c (M.so_far, refl, refl, M.held)
       go (named p l ps) g L r =
           let f = (take_first (all_rows (prototype_steps ps ++ (Steps.done ∷ [])) ++ rest) p l g.0 h (subst (Lies list t i M.at) (named_first p l ps rest ∙ take_rows p l (all_rows (prototype_steps ps ++ (Steps.done ∷ [])) ++ rest)) L)).0 in
           let z : begins_prototype (step_field 2 list i 0) ≡ true = rw f in
@@ -390,10 +381,10 @@ module _ (list t u w : List ℕ) (i n tb : ℕ) (ns own : Path) (rest : List Row
           absurd (false≢true (sym e ∙ z))
 
   module _ (N : NextPrototype) (w' : List ℕ) where
-    pub prototype_goes : (j rows tb' : ℕ) → WentIs (view t u w') (i + length (all_rows (prototype_steps N.one))) (P⟦ N.one ⟧ ns own N.so_far) (Next j rows tb') → MidPrototypes list t u w' j rows tb' ns own rest all next
+    pub prototype_goes : (j : ℕ) (size' : Size) → WentIs (view t u w') (i + length (all_rows (prototype_steps N.one))) (P⟦ N.one ⟧ ns own N.so_far) (next_at j size') → MidPrototypes list t u w' j size'.rows size'.text ns own rest all next
     unfolding ◌>>=◌
-    prototype_goes j rows tb' W =
-        let G = goes_on (view t u w') (i + length (all_rows (prototype_steps N.one))) (P⟦ N.one ⟧ ns own N.so_far) (Next j rows tb') j rows tb' refl W in
+    prototype_goes j size' W =
+        let G = goes_on (view t u w') (i + length (all_rows (prototype_steps N.one))) (P⟦ N.one ⟧ ns own N.so_far) j size' W in
         let P = lies_pass (all_rows (prototype_steps N.one)) (all_rows (prototype_steps N.others ++ (Steps.done ∷ [])) ++ rest) N.lies (long_steps (prototype_steps N.one)) in
         record {
           left = N.others;
@@ -406,10 +397,6 @@ module _ (list t u w : List ℕ) (i n tb : ℕ) (ns own : Path) (rest : List Row
           reach = omega (arith, G.at, N.reach);
         }
 
-    pub prototype_stops : (x y : ℕ) → WentIs (view t u w') (i + length (all_rows (prototype_steps N.one))) (P⟦ N.one ⟧ ns own N.so_far) (Refused x y) → WentIs (view t u w') next all (Refused x y)
+    pub prototype_stops : (refusal : Refusal) → WentIs (view t u w') (i + length (all_rows (prototype_steps N.one))) (P⟦ N.one ⟧ ns own N.so_far) (Err refusal) → WentIs (view t u w') next all (Err refusal)
     unfolding ◌>>=◌
-    prototype_stops x y W = rw N.goes (go (P⟦ N.one ⟧ ns own N.so_far) W)
-      where
-        go : (a : Answer Store) → WentIs (view t u w') (i + length (all_rows (prototype_steps N.one))) a (Refused x y) → WentIs (view t u w') next (a >>= P⟦ N.others ⟧ ns own) (Refused x y)
-        go (ok _) x3 = elim x3 [ ]
-        go (refused x y) off = off
+    prototype_stops refusal W = rw (N.goes, W)

@@ -44,15 +44,12 @@ module _ (t u w s : List ℕ) (n m i e : ℕ) (few : n ≤ 1024) (new-few : m �
   abbrev new : List Row
   new = view t u s m
 
-  all_new : take (m - 0) (drop 0 (rows_in t u s m)) ≡ new
-  all_new = ap (take (m - 0)) (rows_view t u s m (omega arith) new-room) ∙ take_all (m - 0) new (rw (length_view t u s m) (omega arith))
-
-  pub replaced : (w' : List ℕ) (text old sum text' rows : ℕ) → old ≡ text_bytes (take (e - i) (drop i (rows_in t u w n))) → sum ≡ text + text_bytes (take (m - 0) (drop 0 (rows_in t u s m)))
+  pub replaced : (w' : List ℕ) (text old sum text' rows : ℕ) → old ≡ text_bytes (take (e - i) (drop i (rows_in t u w n))) → sum ≡ text + text_bytes new
       → w' ≡ spliced w n i e s m → text' ≡ sum - old → rows ≡ i + (m + (n - e)) → Replaced xs new i e text (view t u w' rows) text'
   replaced w' text old sum text' rows eo es ew et er =
       let q : view t u w' rows ≡ take i xs ++ (new ++ drop e xs) = (λ k. view t u (ew k) (er k)) ∙ view_splice t u w n i e s m ordered inside (omega arith) (omega arith) new-room in
       let o : old ≡ text_bytes (take (e - i) (drop i xs)) = eo ∙ ap (λ r. text_bytes (take (e - i) (drop i r))) (rows_view t u w n (omega arith) (omega arith)) in
-      let k : sum ≡ text + text_bytes new = es ∙ ap (λ r. text + text_bytes r) all_new in
+      let k : sum ≡ text + text_bytes new = es in
       let a : text_bytes xs ≡ text_bytes (take i xs) + (text_bytes (take (e - i) (drop i xs)) + text_bytes (drop e xs)) = ap text_bytes (parts xs i e ordered) ∙ text_parts (take i xs) (take (e - i) (drop i xs)) (drop e xs) in
       let b : text_bytes (take i xs ++ (new ++ drop e xs)) ≡ text_bytes (take i xs) + (text_bytes new + text_bytes (drop e xs)) = text_parts (take i xs) new (drop e xs) in
       record { rows = q; bytes = λ h. omega (arith, o, k, a, b, h, et) ∙ sym (ap text_bytes q) }
@@ -184,10 +181,11 @@ module _ (t u s : List ℕ) (m : ℕ) (new-few : m ≤ 4096) (new-room : m * 16 
       let q : text_bytes (drop i (view t u s m)) ≡ (row_here t u s i).span + text_bytes (drop (suc i) (view t u s m)) = ap text_bytes (view_cons t u s m i (omega arith) new-few new-room) in
       omega (arith, q, size_below i (omega arith), sum_below k (suc i) (omega arith))
 
+  pub text_whole : (k : ℕ) → k ≡ text_bytes (take (m - 0) (drop 0 (rows_in t u s m))) → k ≡ text_bytes (view t u s m)
+  text_whole k e = e ∙ ap text_bytes (ap (take (m - 0)) (rows_view t u s m new-few new-room) ∙ take_all (m - 0) (view t u s m) (rw (length_view t u s m) (omega arith)))
+
   pub text_below : (k : ℕ) → k ≡ text_bytes (take (m - 0) (drop 0 (rows_in t u s m))) → k ≤ 65535 * 4096
-  text_below k e =
-      let q : k ≡ text_bytes (view t u s m) = e ∙ ap text_bytes (ap (take (m - 0)) (rows_view t u s m new-few new-room) ∙ take_all (m - 0) (view t u s m) (rw (length_view t u s m) (omega arith))) in
-      omega (arith, q, sum_below m 0 (omega arith))
+  text_below k e = omega (arith, text_whole k e, sum_below m 0 (omega arith))
 
 -- ---- from what the code's calls answer
 

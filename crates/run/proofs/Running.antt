@@ -25,10 +25,14 @@ use Rattle.table.specs.Whole.{is_table_of}
 use Rattle.steplist.specs.Whole.{is_step_list_of}
 use Rattle.rows.specs.View.{groups, view}
 use Rattle.load.specs.Load.{loads, load_stored}
-use Rattle.run.specs.declared.block.Went.{Went}
-use Rattle.run.specs.declared.block.Went.TheVariants.{Refused}
+use Rattle.refusal.specs.Refused.{number_of}
+use Rattle.refusal.specs.declared.Reason.{Reason}
+use Rattle.refusal.specs.declared.Reason.TheVariants.{NotAStepList, NotATable}
+use Rattle.refusal.specs.declared.Refusal.{Refusal}
+use Rattle.run.specs.declared.block.Next.{Next}
+use Rattle.std.specs.Prelude.{Result, Err}
 use Rattle.run.specs.Paths.{names}
-use Rattle.run.specs.Blocks.{WentIs, off, NextIn, StatementsAre}
+use Rattle.run.specs.Blocks.{WentIs, NextIn, StatementsAre}
 use Rattle.run.specs.Runs.{store_of, EvaluatedIs}
 use Rattle.run.proofs.Starting.{list_lies, list_few, list_light, table_light, rows_few, table_held}
 
@@ -60,32 +64,35 @@ module _ (list start : List ℕ) where
 
   -- ---- 9 and 10
 
-  stopped : (w : List ℕ) (k : ℕ) → store_of list start ≡ refused k 0 → EvaluatedIs list start w (Refused k 0)
-  stopped w k e = (0, tt, subst (λ a. WentIs (view (text_of list) (text_of start) w) 0 a (Refused k 0)) (sym e) off)
+  stopped : (w : List ℕ) (reason : Reason) → store_of list start ≡ refused (number_of reason) 0 → EvaluatedIs list start w (Err (record { reason = reason; place = 0 }))
+  stopped w reason e = (0, tt, e)
 
-  pub no_list : (w : List ℕ) → is_step_list_of list ≡ false → EvaluatedIs list start w (Refused 9 0)
+  pub no_list : (w : List ℕ) → is_step_list_of list ≡ false → EvaluatedIs list start w (Err (record { reason = NotAStepList; place = 0 }))
   unfolding is_step_list_of store_of or_refused ◌>>=◌
-  no_list w e = stopped w 9 (rw (none_of (block_of list) e))
+  no_list w e = stopped w NotAStepList (rw (none_of (block_of list) e))
 
-  pub no_table : (w : List ℕ) → is_step_list_of list ≡ true → is_table_of start ≡ false → EvaluatedIs list start w (Refused 10 0)
+  pub no_table : (w : List ℕ) → is_step_list_of list ≡ true → is_table_of start ≡ false → EvaluatedIs list start w (Err (record { reason = NotATable; place = 0 }))
   unfolding is_step_list_of is_table_of store_of or_refused ◌>>=◌
-  no_table w e f = stopped w 10 (rw ((found_of (block_of list) e).1, none_of (table_of start) f))
+  no_table w e f = stopped w NotATable (rw ((found_of (block_of list) e).1, none_of (table_of start) f))
 
   -- ---- the steps
+
+  pub records_few : Both list start → (is : List ℕ) → is ≡ records_of Steps list → length is ≤ 20480
+  records_few F is es = omega (arith, ap length es, list_few list F.block F.is_list)
 
   module _ (F : Both list start) (rs is t u : List ℕ) (er : rs ≡ records_of Table start) (es : is ≡ records_of Steps list) (et : t ≡ text_of list) (eu : u ≡ text_of start)
       (w : List ℕ) (n : ℕ) (room : 65536 ≤ length w) (en : n ≡ loads rs w) where
     many : n ≡ loads (records_of Table start) w
     many = en ∙ ap (λ x. loads x w) er
 
-    pub ready : (n ≤ 1024) × (length u ≤ 16384) × (length is ≤ 20480)
-    ready = (rows_few start F.store F.is_table w room n many, omega (arith, ap length eu, table_light start F.store F.is_table), omega (arith, ap length es, list_few list F.block F.is_list))
+    pub ready : (n ≤ 1024) × (length u ≤ 16384)
+    ready = (rows_few start F.store F.is_table w room n many, omega (arith, ap length eu, table_light start F.store F.is_table))
 
     store_is : store_of list start ≡ B⟦ F.block ⟧ [] F.store
     unfolding store_of or_refused ◌>>=◌
     store_is = rw ((steps_exact list F.block).1 F.is_list, (table_exact start F.store).1 F.is_table) (compiled F.block F.store)
 
-    pub went : (w₁ w' s : List ℕ) (r : Went) → w₁ ≡ load_stored rs u w → NextIn 0 r → StatementsAre is 0 t u n (length u) 0 s w₁ w' r → EvaluatedIs list start w' r
+    pub went : (w₁ w' s : List ℕ) (r : Result Next Refusal) → w₁ ≡ load_stored rs u w → NextIn 0 r → StatementsAre is 0 t u n (length u) 0 s w₁ w' r → EvaluatedIs list start w' r
     unfolding names groups
     went w₁ w' s r e k S =
         let e₁ : w₁ ≡ load_stored (records_of Table start) (text_of start) w = e ∙ (λ i. load_stored (er i) (eu i) w) in

@@ -4,7 +4,7 @@ use native.Mathlib.Omega.{arith}
 use mathlib.Core.Path.{◌≡◌, refl, sym, ap, ◌∙◌, subst}
 use mathlib.Core.List.{List, [], ◌∷◌, ◌++◌}
 use lib.ListN.{length, drop}
-use Rattle.paper.specs.Answer.{Answer, ok, refused, ◌>>=◌}
+use Rattle.paper.specs.Answer.{◌>>=◌}
 use Rattle.paper.specs.Syntax.{Path, Basic, assign, basic, link, extends, Prototypes}
 use Rattle.paper.specs.Store.{Store, ∅, component, resolve}
 use Rattle.paper.specs.Store as S
@@ -17,15 +17,15 @@ use Rattle.paper.specs.Steps.{statement_steps, value_steps, prototype_steps}
 use Rattle.paper.specs.StepLayout.{step_row, step_rows, all_rows}
 use Rattle.paper.specs.WellFormed.{IsValueOf}
 use Rattle.rows.specs.View.{view}
-use Rattle.run.specs.declared.put.Ran.{Ran}
-use Rattle.run.specs.declared.put.Ran.TheVariants.{Done}
-use Rattle.run.specs.declared.put.Ran.TheVariants.{Refused as Not}
-use Rattle.run.specs.declared.block.Went.{Went}
-use Rattle.run.specs.declared.block.Went.TheVariants.{Refused}
-use Rattle.run.specs.Puts.{RanIs, RanIs.gone, RanIs.stopped}
+use Rattle.refusal.specs.declared.Reason.{Reason}
+use Rattle.refusal.specs.declared.Refusal.{Refusal}
+use Rattle.run.specs.declared.size.Size.{Size}
+use Rattle.run.specs.declared.block.Next.{Next}
+use Rattle.std.specs.Prelude.{Result, Ok, Err}
+use Rattle.run.specs.Puts.{RanIs}
 use Rattle.run.specs.Listed.{Lies, step_field}
 use Rattle.run.specs.Stepping.{scope_in, NamesPut, Makes, Sets, Links}
-use Rattle.run.specs.Blocks.{Placed, WentIs, WentIs.off, ComponentIs, StatementIs, PrototypesAre}
+use Rattle.run.specs.Blocks.{Placed, WentIs, ComponentIs, StatementIs, PrototypesAre}
 use Rattle.run.proofs.Lying.{lies_first, lies_next, small_make, small_set}
 use Rattle.run.proofs.Evaluating.{one_step, long_set, lies_few, placed_is, first, make_rows, set_rows, link_rows, joined, target_count, names_before}
 
@@ -44,7 +44,7 @@ make_next p l L h = lies_next L (small_make p l h).0
 -- ---- one statement
 
 module _ (list t u s s₁ w w' : List ℕ) (i n tb k m : ℕ) (few : k ≤ 32) (room : 65536 ≤ length s) (hl : length list ≤ 20480) (hi : i < 1024) (N : NamesPut t (step_field 2 list i 4) s (32768 + k * 2) s₁ m) where
-  pub statement_none : (r : Went) → m < 1 → StatementIs list i t u n tb k s w w' r
+  pub statement_none : (r : Result Next Refusal) → m < 1 → StatementIs list i t u n tb k s w w' r
   unfolding value_steps statement_steps
   statement_none r z (assign l v) q rest st g L h held =
       absurd (omega (arith, z, target_count t u s s₁ k m q l v list i few room h g.0 (first list t i q l v rest h hl hi g.1 L) N, g.0.some))
@@ -67,7 +67,7 @@ module _ (list t u s s₁ w w' : List ℕ) (i n tb k m : ℕ) (few : k ≤ 32) (
       let F = lies_first L (small_set p l b g.0 g.1 (omega (arith, e))).0 h in
       (F.span, e)
 
-  pub statement_set : (ran : Ran) (next : ℕ) → step_field 2 list i 0 ≡ 6 → (1 ≤ step_field 2 list i 6 → i + step_field 2 list i 6 ≤ 1024 → next ≡ i + step_field 2 list i 6) → Sets list i t u n tb (k + m) s₁ w w' ran
+  pub statement_set : (ran : Result Size Reason) (next : ℕ) → step_field 2 list i 0 ≡ 6 → (1 ≤ step_field 2 list i 6 → i + step_field 2 list i 6 ≤ 1024 → next ≡ i + step_field 2 list i 6) → Sets list i t u n tb (k + m) s₁ w w' ran
       → StatementIs list i t u n tb k s w w' (Placed (step_field 4 list i 16) next ran)
   unfolding A⟦◌⟧ statement_steps
   statement_set ran next e6 en R (assign l (basic p b)) q rest st g L h held =
@@ -84,7 +84,7 @@ module _ (list t u s s₁ w w' : List ℕ) (i n tb k m : ℕ) (few : k ≤ 32) (
   statement_set ran next e6 en R (assign l (link p x)) q rest st g L h held = absurd (omega (arith, e6, (first list t i q l (link p x) rest h hl hi g.1 L).step))
   statement_set ran next e6 en R (assign l (extends p ps)) q rest st g L h held = absurd (omega (arith, e6, (first list t i q l (extends p ps) rest h hl hi g.1 L).step))
 
-  pub statement_link : (ran : Ran) → step_field 2 list i 0 ≡ 8 → Links list i t u n tb k (k + m) s₁ w w' ran → StatementIs list i t u n tb k s w w' (Placed (step_field 4 list i 16) (i + 1) ran)
+  pub statement_link : (ran : Result Size Reason) → step_field 2 list i 0 ≡ 8 → Links list i t u n tb k (k + m) s₁ w w' ran → StatementIs list i t u n tb k s w w' (Placed (step_field 4 list i 16) (i + 1) ran)
   unfolding A⟦◌⟧ statement_steps
   statement_link ran e8 R (assign l (basic p b)) q rest st g L h held = absurd (omega (arith, e8, (first list t i q l (basic p b) rest h hl hi g.1 L).step))
   statement_link ran e8 R (assign l (link p x)) q rest st g L h held =
@@ -97,7 +97,7 @@ module _ (list t u s s₁ w w' : List ℕ) (i n tb k m : ℕ) (few : k ≤ 32) (
       (subst (λ y. RanIs p (view t u w') (linked p y (resolve (scope_in t u s k) x st) st) ran) (sym J.is) (subst (λ y. RanIs p (view t u w') (linked p (J.front ++ (J.last ∷ [])) (resolve y x st) st) ran) scope_same A)))
   statement_link ran e8 R (assign l (extends p ps)) q rest st g L h held = absurd (omega (arith, e8, (first list t i q l (extends p ps) rest h hl hi g.1 L).step))
 
-  pub statement_component : (r : Went) → (step_field 2 list i 0 ≡ 6 → ⊥) → (step_field 2 list i 0 ≡ 8 → ⊥) → ComponentIs list i t u n tb k (k + m) s₁ w w' r → StatementIs list i t u n tb k s w w' r
+  pub statement_component : (r : Result Next Refusal) → (step_field 2 list i 0 ≡ 6 → ⊥) → (step_field 2 list i 0 ≡ 8 → ⊥) → ComponentIs list i t u n tb k (k + m) s₁ w w' r → StatementIs list i t u n tb k s w w' r
   unfolding A⟦◌⟧ statement_steps
   statement_component r n6 n8 C (assign l (basic p b)) q rest st g L h held = absurd (n6 (first list t i q l (basic p b) rest h hl hi g.1 L).step)
   statement_component r n6 n8 C (assign l (link p x)) q rest st g L h held = absurd (n8 (first list t i q l (link p x) rest h hl hi g.1 L).step)
@@ -111,20 +111,17 @@ module _ (list t u s s₁ w w' : List ℕ) (i n tb k m : ℕ) (few : k ≤ 32) (
 -- ---- a component
 
 module _ (list t u s w : List ℕ) (i n tb k own : ℕ) (hl : length list ≤ 20480) (hi : i < 1024) where
-  pub component_refused : (w' : List ℕ) (x : ℕ) → Makes t u n tb own s w w' (Not x) → ComponentIs list i t u n tb k own s w w' (Refused x (step_field 4 list i 16))
+  pub component_refused : (w' : List ℕ) (r : Result Size Reason) (refusal : Refusal) → Placed (step_field 4 list i 16) (i + 1) r ≡ Err refusal → Makes t u n tb own s w w' r → ComponentIs list i t u n tb k own s w w' (Err refusal)
   unfolding V⟦◌⟧ ◌>>=◌
-  component_refused w' x M p q l front last ps rest st hp g L h T held =
+  component_refused w' (Ok size) refusal e M p q l front last ps rest st hp g L h T held = absurd (cc)
+  component_refused w' (Err reason) refusal e M p q l front last ps rest st hp g L h T held =
       let F = first list t i q l (extends p ps) rest h hl hi g L in
-      go (Bounds.assign p (front ++ (last ∷ [])) (component ∅) st) (M st front last p held T) F.place_is
-    where
-      go : (a : Answer Store) → RanIs p (view t u w') a (Not x) → step_field 4 list i 16 ≡ p → WentIs (view t u w') (i + length (all_rows (value_steps (extends p ps) l))) (a >>= λ z. P⟦ ps ⟧ (scope_in t u s k) (front ++ (last ∷ [])) z) (Refused x (step_field 4 list i 16))
-      go (ok _) x4 e = elim x4 [ ]
-      go (refused y z) stopped e = rw e off
+      subst (WentIs (view t u w') (i + length (all_rows (value_steps (extends p ps) l))) (V⟦ extends p ps ⟧ (scope_in t u s k) (front ++ (last ∷ [])) st)) e (rw (M st front last p held T, F.place_is))
 
-  pub component_on : (s₁ w₁ w' : List ℕ) (rows tb₁ : ℕ) (r : Went) → Makes t u n tb own s w w₁ (Done rows tb₁) → drop 32768 s₁ ≡ drop 32768 s → PrototypesAre list (i + 1) t u rows tb₁ k own s₁ w₁ w' r → ComponentIs list i t u n tb k own s w w' r
+  pub component_on : (s₁ w₁ w' : List ℕ) (size : Size) (r : Result Next Refusal) → Makes t u n tb own s w w₁ (Ok size) → drop 32768 s₁ ≡ drop 32768 s → PrototypesAre list (i + 1) t u size.rows size.text k own s₁ w₁ w' r → ComponentIs list i t u n tb k own s w w' r
   unfolding V⟦◌⟧ ◌>>=◌
-  component_on s₁ w₁ w' rows tb₁ r M ed R p q l front last ps rest st hp g L h T held =
-      go (Bounds.assign p (front ++ (last ∷ [])) (component ∅) st) (M st front last p held T)
+  component_on s₁ w₁ w' size r M ed R p q l front last ps rest st hp g L h T held =
+      go (M st front last p held T)
     where
       L₁ : Lies list t i q (step_rows (Steps.make p l) ++ (all_rows (prototype_steps ps ++ (Steps.done ∷ [])) ++ rest))
       L₁ = subst (Lies list t i q) (make_rows p l ps rest) L
@@ -138,10 +135,11 @@ module _ (list t u s w : List ℕ) (i n tb k own : ℕ) (hl : length list ≤ 20
       outer : scope_in t u s₁ k ≡ scope_in t u s k
       outer = ap (λ y. names t u y k) ed
 
-      go : (a : Answer Store) → RanIs p (view t u w₁) a (Done rows tb₁) → WentIs (view t u w') (i + length (all_rows (value_steps (extends p ps) l))) (a >>= λ z. P⟦ ps ⟧ (scope_in t u s k) (front ++ (last ∷ [])) z) r
-      go (refused _ _) x3 = elim x3 [ ]
-      go (ok st₁) (gone G) =
-          subst (λ y. WentIs (view t u w') (i + length (all_rows (value_steps (extends p ps) l))) (P⟦ ps ⟧ (scope_in t u s k) y st₁) r) own_names
+      go : RanIs p (view t u w₁) (Bounds.assign p (front ++ (last ∷ [])) (component ∅) st) (Ok size)
+          → WentIs (view t u w') (i + length (all_rows (value_steps (extends p ps) l))) (Bounds.assign p (front ++ (last ∷ [])) (component ∅) st >>= λ z. P⟦ ps ⟧ (scope_in t u s k) (front ++ (last ∷ [])) z) r
+      go (st₁, made, G) =
+          rw made
+          (subst (λ y. WentIs (view t u w') (i + length (all_rows (value_steps (extends p ps) l))) (P⟦ ps ⟧ (scope_in t u s k) y st₁) r) own_names
           (subst (λ y. WentIs (view t u w') (i + length (all_rows (value_steps (extends p ps) l))) (P⟦ ps ⟧ y (scope_in t u s₁ own) st₁) r) outer
           (subst (λ y. WentIs (view t u w') y (P⟦ ps ⟧ (scope_in t u s₁ k) (scope_in t u s₁ own) st₁) r) len
-          (R ps (q + length (row_text (step_row 1 0 (text (path_text l)) 0 (number 0) p))) rest st₁ g.2 (make_next p l L₁ g.0) h G)))
+          (R ps (q + length (row_text (step_row 1 0 (text (path_text l)) 0 (number 0) p))) rest st₁ g.2 (make_next p l L₁ g.0) h G))))

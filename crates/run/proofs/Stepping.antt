@@ -1,8 +1,7 @@
 -- One step, from what its calls answer. Assumes nothing.
 use Prim.Native.Nat.{ℕ, suc, ◌+◌, ◌-◌, ◌*◌, ◌%◌, ◌≤◌, ◌<◌}
 use native.Mathlib.Omega.{arith}
-use native.Mathlib.Nat.{le_of_eq}
-use mathlib.Core.Path.{◌≡◌, sym, ap, ◌∙◌, subst}
+use mathlib.Core.Path.{◌≡◌, refl, sym, ap, ◌∙◌, subst}
 use mathlib.Core.Logic.{inl}
 use mathlib.Core.List.{List, [], ◌∷◌, ◌++◌, append-nil}
 use mathlib.Core.Option.{some}
@@ -21,18 +20,19 @@ use Rattle.paper.specs.StepLayout.{step_rows, step_row}
 use Rattle.paper.specs.WellFormed.{IsPath, IsPlace}
 use Rattle.memory.specs.Memory.{word_at, stored}
 use Rattle.memory.proofs.Laws.{length_stored, word_in, same_word, word_other}
-use Rattle.rows.specs.declared.search.Found.{Found}
-use Rattle.rows.specs.declared.search.Found.TheVariants.{At, Nothing}
+use Rattle.std.specs.Prelude as Std
 use Rattle.rows.specs.View.{groups, view, byte_of, label_of, label_text, name_of, value_of}
 use Rattle.rows.specs.Search.{text_bytes}
 use Rattle.rows.specs.Change.{field_at, row_bytes, row_stored}
 use Rattle.rows.specs.Flat.{sized, flat, flat_value}
 use Rattle.rows.proofs.Views.{seen_row, view_row}
 use Rattle.rows.proofs.Trees.{line, head, beneath, flat_head, flat_none, deepest_flat, text_bytes_flat}
-use Rattle.run.specs.declared.put.Ran.{Ran}
-use Rattle.run.specs.declared.put.Ran.TheVariants.{Refused}
+use Rattle.refusal.specs.declared.Reason.{Reason}
+use Rattle.refusal.specs.declared.Reason.TheVariants.{LinkFindsNothing, PrototypeFindsNothing, PrototypeIsNoComponent}
+use Rattle.run.specs.declared.size.Size.{Size}
+use Rattle.std.specs.Prelude.{Result, Err}
 use Rattle.run.specs.Paths.{names, StandsAt, FindIs, ResolvesIn}
-use Rattle.run.specs.Puts.{Held, RanIs, RanIs.stopped, Assigns, Copies}
+use Rattle.run.specs.Puts.{Held, RanIs, Assigns, Copies}
 use Rattle.run.specs.Takes.{AttributesTaken, ValueTaken}
 use Rattle.run.specs.Listed.{SetIn, Lies, path_count, places, step_field}
 use Rattle.run.specs.Stepping.{scope_in, ScopeKept, Target, NamesPut, BindsLast, Makes, Sets, Links, Takes}
@@ -45,8 +45,11 @@ use Rattle.run.proofs.Lying.{lies_first, lies_label, lies_value, small_take, sma
 use Rattle.run.proofs.Placing.{put_none, length_places, path_placed, names_stored, names_kept}
 
 -- the part of a slice from a place on
-pub cut : (s : List ℕ) (a : ℕ) → take (length s - a) (drop a s) ≡ drop a s
-cut s a = take_all (length s - a) (drop a s) (le_of_eq (length-drop a s))
+pub cut : (s : List ℕ) (a k : ℕ) → length s ≡ a + k → take k (drop a s) ≡ drop a s
+cut s a k e = let h : length (drop a s) ≤ k = omega (arith, length-drop a s) in take_all k (drop a s) h
+
+pub cut_long : (s : List ℕ) (a k n : ℕ) → length s ≡ a + k → n ≤ k → n ≤ length (take k (drop a s))
+cut_long s a k n e h = rw (cut s a k e, length-drop) (omega arith)
 
 few_path : (t : List ℕ) (p : ℕ) → path_count t p ≤ 32
 unfolding path_count
@@ -69,7 +72,7 @@ module _ (t u z : List ℕ) (k : ℕ) (front : Path) (last : Name) (some-name : 
   pub front_is : names t u z (k - 1) ≡ front
   front_is = sym (names_take t u z k (k - 1) (omega arith)) ∙ ap (take (k - 1)) T.names_are ∙ take_at front (last ∷ []) (k - 1) front_length
 
-pub binds_last : (t u w s w' : List ℕ) (n m k tb label : ℕ) (name : Name) (r : Ran) → 1 ≤ k → name ≡ name_of t u label → Assigns t u n (names t u (drop 32768 s) (k - 1)) name m tb w s w' r → BindsLast t u n tb k label m s w w' r
+pub binds_last : (t u w s w' : List ℕ) (n m k tb label : ℕ) (name : Name) (r : Result Size Reason) → 1 ≤ k → name ≡ name_of t u label → Assigns t u n (names t u (drop 32768 s) (k - 1)) name m tb w s w' r → BindsLast t u n tb k label m s w w' r
 binds_last t u w s w' n m k tb label name r some-name en A st front last v p held T el hv =
     let z : List ℕ = drop 32768 s in
     let a : names t u z (k - 1) ≡ front = front_is t u z k front last some-name T in
@@ -162,7 +165,7 @@ module _ (t u w s : List ℕ) (n j m : ℕ) where
   abbrev xs : List Row
   xs = view t u w n
 
-  pub resolved : (r : Path) (o : Found) (st : Store) → ResolvesIn xs j (scope_in t u s j) r o → xs ≡ flat 1 st → FindIs xs (resolve (scope_in t u s j) r st) o
+  pub resolved : (r : Path) (o : Std.Option ℕ) (st : Store) → ResolvesIn xs j (scope_in t u s j) r o → xs ≡ flat 1 st → FindIs xs (resolve (scope_in t u s j) r st) o
   unfolding resolve
   resolved r o st R e =
       let l : length (scope_in t u s j) ≡ j = length_names t u (drop 32768 s) j in
@@ -174,7 +177,7 @@ module _ (t u w s : List ℕ) (n j m : ℕ) where
 abbrev pub LabelRead : List ℕ → ℕ → ℕ → Type 0
 LabelRead z k label = (label < 32768) × (word_at 2 z ((k - 1) * 2) < 32768 → label ≡ word_at 2 z ((k - 1) * 2))
 
-module _ (t u w s s₁ w' : List ℕ) (n tb k label size : ℕ) (r : Ran) (room : 65536 ≤ length s) (l₁ : 1 ≤ k) (l₂ : k ≤ 64) (L : LabelRead (drop 32768 s) k label) where
+module _ (t u w s s₁ w' : List ℕ) (n tb k label size : ℕ) (r : Result Size Reason) (room : 65536 ≤ length s) (l₁ : 1 ≤ k) (l₂ : k ≤ 64) (L : LabelRead (drop 32768 s) k label) where
   pub makes : size ≡ 1 + byte_of t u label → size < 65536 → s₁ ≡ row_stored s 0 (row_bytes 0 k label size 0) → drop 32768 s₁ ≡ drop 32768 s → BindsLast t u n tb k label 1 s₁ w w' r → Makes t u n tb k s w w' r
   makes es ls e₁ ed B st front last p held T =
       let el = L.1 T.low in
@@ -215,23 +218,23 @@ module _ (list t u w s s₁ : List ℕ) (i n tb j k label p₀ m : ℕ) (room : 
       there : (x : ℕ) → drop x t ≡ path_text r ++ texts rest → x < 32768
       there x e = let a : length (drop x t) ≡ suc (length (Layout.names_text r ++ texts rest)) = ap length e in omega (arith, length-drop x t, a, h)
 
-  pub links_none : (w' : List ℕ) → m < 1 → Links list i t u n tb j k s w w' (Refused 11)
+  pub links_none : (w' : List ℕ) → m < 1 → Links list i t u n tb j k s w w' (Err LinkFindsNothing)
   links_none w' z st front last p q l r rest held T Y hl hr hp h = absurd (omega (arith, z, (link_refers p q l r rest Y hl hr hp h).count, hr.some))
 
-  module _ (o : Found) (R : ResolvesIn (view t u w n) j (scope_in t u s₁ j) (names t u (drop 33024 s₁) m) o) where
+  module _ (o : Std.Option ℕ) (R : ResolvesIn (view t u w n) j (scope_in t u s₁ j) (names t u (drop 33024 s₁) m) o) where
     found_value : (r : Path) (st : Store) → Refers r → view t u w n ≡ flat 1 st → FindIs (view t u w n) (resolve (scope_in t u s j) r st) o
     found_value r st F e =
         subst (λ x. FindIs (view t u w n) (resolve x r st) o) F.scope (subst (λ x. FindIs (view t u w n) (resolve (scope_in t u s₁ j) x st) o) F.names_are (resolved t u w s₁ n j m (names t u (drop 33024 s₁) m) o st R e))
 
-  pub links_nothing : (w' : List ℕ) → ResolvesIn (view t u w n) j (scope_in t u s₁ j) (names t u (drop 33024 s₁) m) Nothing → Links list i t u n tb j k s w w' (Refused 11)
+  pub links_nothing : (w' : List ℕ) → ResolvesIn (view t u w n) j (scope_in t u s₁ j) (names t u (drop 33024 s₁) m) Std.None → Links list i t u n tb j k s w w' (Err LinkFindsNothing)
   unfolding linked
-  links_nothing w' R st front last p q l r rest held T Y hl hr hp h = rw (found_value Nothing R r st (link_refers p q l r rest Y hl hr hp h) held.rows) stopped
+  links_nothing w' R st front last p q l r rest held T Y hl hr hp h = rw (found_value Std.None R r st (link_refers p q l r rest Y hl hr hp h) held.rows)
 
-  pub links_value : (at rows : ℕ) (s₂ w' : List ℕ) (o : Ran) → ResolvesIn (view t u w n) j (scope_in t u s₁ j) (names t u (drop 33024 s₁) m) (At at) → ValueTaken t u w n at label k s₂ rows → drop 32768 s₂ ≡ drop 32768 s₁
+  pub links_value : (at rows : ℕ) (s₂ w' : List ℕ) (o : Result Size Reason) → ResolvesIn (view t u w n) j (scope_in t u s₁ j) (names t u (drop 33024 s₁) m) (Std.Some at) → ValueTaken t u w n at label k s₂ rows → drop 32768 s₂ ≡ drop 32768 s₁
       → BindsLast t u n tb k label rows s₂ w w' o → Links list i t u n tb j k s w w' o
   unfolding linked
   links_value at rows s₂ w' o R taken ed B st front last p q l r rest held T Y hl hr hp h =
-      let F = found_value (At at) R r st (link_refers p q l r rest Y hl hr hp h) held.rows in
+      let F = found_value (Std.Some at) R r st (link_refers p q l r rest Y hl hr hp h) held.rows in
       let el = L.1 T.low in
       let named : label_text t u label ≡ name_text last = ap (label_text t u) el ∙ T.label in
       let T₁ = target_kept t u s s₁ p₀ m k N room l₁ l₂ front last T in
@@ -264,38 +267,38 @@ module _ (list t u w s s₁ : List ℕ) (i n tb j k p₀ m : ℕ) (room : 65536 
   scope_kept : (a : ℕ) → a ≤ 32 → scope_in t u s₁ a ≡ scope_in t u s a
   scope_kept a h = kept_fewer s s₁ t u a (reference_kept t s s₁ p₀ m N room) (omega arith)
 
-  pub takes_none : (w' : List ℕ) → m < 1 → Takes list i t u n tb j k s w w' (Refused 12)
+  pub takes_none : (w' : List ℕ) → m < 1 → Takes list i t u n tb j k s w w' (Err PrototypeFindsNothing)
   takes_none w' z st p q r rest held Y hr hp h = absurd (omega (arith, z, (take_refers p q r rest Y hr hp h).count, hr.some))
 
-  taken_value : (o : Found) → ResolvesIn (view t u w n) j (scope_in t u s₁ j) (names t u (drop 33024 s₁) m) o → (r : Path) (st : Store) → Names r → view t u w n ≡ flat 1 st → FindIs (view t u w n) (resolve (scope_in t u s j) r st) o
+  taken_value : (o : Std.Option ℕ) → ResolvesIn (view t u w n) j (scope_in t u s₁ j) (names t u (drop 33024 s₁) m) o → (r : Path) (st : Store) → Names r → view t u w n ≡ flat 1 st → FindIs (view t u w n) (resolve (scope_in t u s j) r st) o
   taken_value o R r st F e =
       subst (λ x. FindIs (view t u w n) (resolve x r st) o) (scope_kept j lj) (subst (λ x. FindIs (view t u w n) (resolve (scope_in t u s₁ j) x st) o) F.names_are (resolved t u w s₁ n j m (names t u (drop 33024 s₁) m) o st R e))
 
-  pub takes_nothing : (w' : List ℕ) → ResolvesIn (view t u w n) j (scope_in t u s₁ j) (names t u (drop 33024 s₁) m) Nothing → Takes list i t u n tb j k s w w' (Refused 12)
+  pub takes_nothing : (w' : List ℕ) → ResolvesIn (view t u w n) j (scope_in t u s₁ j) (names t u (drop 33024 s₁) m) Std.None → Takes list i t u n tb j k s w w' (Err PrototypeFindsNothing)
   unfolding inherit
-  takes_nothing w' R st p q r rest held Y hr hp h = rw (taken_value Nothing R r st (take_refers p q r rest Y hr hp h) held.rows) stopped
+  takes_nothing w' R st p q r rest held Y hr hp h = rw (taken_value Std.None R r st (take_refers p q r rest Y hr hp h) held.rows)
 
   -- what was found, by its kind
   found_kind : (at : ℕ) (v : Value) → at < n → StandsAt (view t u w n) v at → (d : ℕ) × (nm : Name) × (field_at 2 w at 0 ≡ (head d nm v).first)
   found_kind at v h S =
       (S.depth, S.name, sym (kind_here t u w n (omega arith) store-room at h) ∙ ap first_of (ap (drop at) (S.rows ∙ ap (λ r. S.before ++ (r ++ S.after)) (flat_head S.depth S.name v)) ∙ drop_at S.before (head S.depth S.name v ∷ (beneath S.depth v ++ S.after)) at S.at))
 
-  pub takes_basic : (at : ℕ) (w' : List ℕ) → at < n → ResolvesIn (view t u w n) j (scope_in t u s₁ j) (names t u (drop 33024 s₁) m) (At at) → (field_at 2 w at 0 ≡ 0 → ⊥) → Takes list i t u n tb j k s w w' (Refused 13)
+  pub takes_basic : (at : ℕ) (w' : List ℕ) → at < n → ResolvesIn (view t u w n) j (scope_in t u s₁ j) (names t u (drop 33024 s₁) m) (Std.Some at) → (field_at 2 w at 0 ≡ 0 → ⊥) → Takes list i t u n tb j k s w w' (Err PrototypeIsNoComponent)
   unfolding inherit
   takes_basic at w' la R nz st p q r rest held Y hr hp h =
-      let F = taken_value (At at) R r st (take_refers p q r rest Y hr hp h) held.rows in
+      let F = taken_value (Std.Some at) R r st (take_refers p q r rest Y hr hp h) held.rows in
       let K = found_kind at F.0 la F.2 in
       rw F.1 (go F.0 (sort K.0 K.1 F.0) K.2)
     where
-      go : (v : Value) {d : ℕ} {nm : Name} → Sort d nm v → field_at 2 w at 0 ≡ (head d nm v).first → RanIs p (view t u w') (inherit p (scope_in t u s k) (some v) st) (Refused 13)
-      go (basic b) (is_basic o) e = stopped
+      go : (v : Value) {d : ℕ} {nm : Name} → Sort d nm v → field_at 2 w at 0 ≡ (head d nm v).first → RanIs p (view t u w') (inherit p (scope_in t u s k) (some v) st) (Err PrototypeIsNoComponent)
+      go (basic b) (is_basic o) e = refl
       go (component c) (is_component o) e = absurd (nz (e ∙ o))
 
-  pub takes_component : (at rows : ℕ) (s₂ w' : List ℕ) (o : Ran) → at < n → ResolvesIn (view t u w n) j (scope_in t u s₁ j) (names t u (drop 33024 s₁) m) (At at) → field_at 2 w at 0 ≡ 0
+  pub takes_component : (at rows : ℕ) (s₂ w' : List ℕ) (o : Result Size Reason) → at < n → ResolvesIn (view t u w n) j (scope_in t u s₁ j) (names t u (drop 33024 s₁) m) (Std.Some at) → field_at 2 w at 0 ≡ 0
       → AttributesTaken w n at (k + 1) s₂ rows → drop 32768 s₂ ≡ drop 32768 s₁ → Copies t u n (scope_in t u s₂ k) rows tb w s₂ w' o → Takes list i t u n tb j k s w w' o
   unfolding inherit
   takes_component at rows s₂ w' o la R z A ed C st p q r rest held Y hr hp h =
-      let F = taken_value (At at) R r st (take_refers p q r rest Y hr hp h) held.rows in
+      let F = taken_value (Std.Some at) R r st (take_refers p q r rest Y hr hp h) held.rows in
       let K = found_kind at F.0 la F.2 in
       rw F.1 (go F.0 F.2 (sort K.0 K.1 F.0) K.2)
     where

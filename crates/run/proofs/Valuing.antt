@@ -1,5 +1,5 @@
 -- The rows of a set's value, from the records of a step list. Assumes nothing.
-use Prim.Native.Nat.{ℕ, suc, ◌+◌, ◌*◌, ◌-◌, ◌%◌, ◌^◌, ◌≤◌, ◌<◌}
+use Prim.Native.Nat.{ℕ, suc, ◌+◌, ◌*◌, ◌-◌, ◌%◌, ◌≤◌, ◌<◌}
 use native.Mathlib.Omega.{arith}
 use native.Mathlib.Nat.{add-zero}
 use native.Mathlib.Numerals.{add-one}
@@ -20,9 +20,8 @@ use Rattle.paper.specs.WellFormed.{IsBasic, AreBasic}
 use Rattle.theorems.proofs.Decoded.Header.{Lasts, lasts-++}
 use Rattle.theorems.proofs.Decoded.Parts.{length_little}
 use Rattle.theorems.proofs.Decoded.Rows.{kind_below}
-use Rattle.theorems.proofs.Laws.DecodeAt.{Bytes}
-use Rattle.memory.specs.Memory.{word_at, part_at, stored}
-use Rattle.memory.proofs.Laws.{fit, word_in, word_out, word_below, length_part, part_out, stored_in, stored_out}
+use Rattle.memory.specs.Memory.{part_at, stored}
+use Rattle.memory.proofs.Laws.{fit, length_part, part_out, stored_in, stored_out}
 use Rattle.rows.specs.View.{text_part, label_text, label_of, value_of, groups, view}
 use Rattle.rows.specs.Change.{row_bytes, row_stored}
 use Rattle.rows.specs.Flat.{sized, flat_value, below, all_below}
@@ -39,9 +38,6 @@ use Rattle.run.specs.Items.{row_of, ItemsIn}
 use Rattle.run.proofs.Lying.{Small, lies_first, lies_next, lies_skip, lies_value, small_item, small_elements, small_set_head, content_below, Below}
 
 -- ---- what a row is written from
-
-pub word_fits : (n : ℕ) (s : List ℕ) (at : ℕ) → Bytes s → 0 < 256 ^ n → word_at n s at < 256 ^ n
-word_fits n s at h z = ⊎_elim (λ f. rw (word_in n s at f) (word_below n s at h)) (λ o. rw (word_out n s at o) z) (fit (at + n) (length s))
 
 pub row_made : (list t s s' : List ℕ) (i q label d k v a b m : ℕ) → k ≡ step_field 2 list i 2 → v ≡ step_field 8 list i 8 → a ≡ name_size t label → b ≡ value_size t k v → m ≡ (a + b) % 65536
     → s' ≡ row_stored s q (row_bytes k d label m v) → s' ≡ row_stored s q (row_of list t i label d)

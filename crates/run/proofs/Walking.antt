@@ -19,8 +19,9 @@ use Rattle.rows.specs.Change.{field_at, row_here}
 use Rattle.rows.proofs.Searches.{seek_in}
 use Rattle.rows.proofs.Groups.{groups_cons, groups_end}
 use Rattle.rows.proofs.Views.{kept_is, length_view, view_cons}
-use Rattle.run.specs.declared.place.Place.{Place}
-use Rattle.run.specs.declared.place.Place.TheVariants.{In, Absent, NoComponent}
+use Rattle.refusal.specs.declared.Reason.{Reason}
+use Rattle.refusal.specs.declared.Reason.TheVariants.{TargetAbsent, TargetIsNoComponent}
+use Rattle.std.specs.Prelude.{Result, Ok, Err}
 use Rattle.run.specs.Paths.{names, Descends, DescendsFrom}
 use Rattle.run.proofs.Leading.{first_of, ends, absent_here, stuck_here, on_from_here}
 
@@ -62,8 +63,8 @@ module _ (t u w : List ℕ) (n : ℕ) (many : n ≤ 4096) (room : n * 16 ≤ len
     abbrev xs : List Row
     xs = view t u w n
 
-    pub walk_end : j ≡ k → DescendsFrom xs lo d ns (In lo)
-    walk_end e pre q s low l is = subst (λ r. Descends xs d r pre q s (In lo)) (sym (names_end t u p k j (omega arith))) (ends xs d pre q s low is lo l)
+    pub walk_end : j ≡ k → DescendsFrom xs lo d ns (Ok lo)
+    walk_end e pre q s low l is = subst (λ r. Descends xs d r pre q s (Ok lo)) (sym (names_end t u p k j (omega arith))) (ends xs d pre q s low is lo l)
 
     module _ (more : j < k) (nm : Name) (called : nm ≡ name_of t u (word_at 2 p (j * 2))) where
       this : nm ∷ drop (suc j) (names t u p k) ≡ ns
@@ -72,16 +73,16 @@ module _ (t u w : List ℕ) (n : ℕ) (many : n ≤ 4096) (room : n * 16 ≤ len
       seeks : {o : Option ℕ} → o ≡ seek nm d (drop lo (rows_in t u w n)) lo → seek nm d (drop lo xs) lo ≡ o
       seeks e = ap (λ r. seek nm d (drop lo r) lo) (sym rows_view) ∙ sym e
 
-      pub walk_absent : none ≡ seek nm d (drop lo (rows_in t u w n)) lo → DescendsFrom xs lo d ns Absent
-      walk_absent e pre q s low l is = subst (λ r. Descends xs d r pre q s Absent) this (absent_here xs d pre q s low is nm (drop (suc j) (names t u p k)) lo l (seeks e))
+      pub walk_absent : none ≡ seek nm d (drop lo (rows_in t u w n)) lo → DescendsFrom xs lo d ns (Err TargetAbsent)
+      walk_absent e pre q s low l is = subst (λ r. Descends xs d r pre q s (Err TargetAbsent)) this (absent_here xs d pre q s low is nm (drop (suc j) (names t u p k)) lo l (seeks e))
 
       module _ (i : ℕ) (e : some i ≡ seek nm d (drop lo (rows_in t u w n)) lo) where
-        pub walk_stuck : (field_at 2 w i 0 ≡ 0 → ⊥) → DescendsFrom xs lo d ns NoComponent
+        pub walk_stuck : (field_at 2 w i 0 ≡ 0 → ⊥) → DescendsFrom xs lo d ns (Err TargetIsNoComponent)
         walk_stuck z pre q s low l is =
-            subst (λ r. Descends xs d r pre q s NoComponent) this
+            subst (λ r. Descends xs d r pre q s (Err TargetIsNoComponent)) this
             (stuck_here xs d pre q s low is nm (drop (suc j) (names t u p k)) lo l i (seeks e) (λ f. z (sym (kind_here i (sought_in nm d lo i e)) ∙ f)))
 
-        pub walk_on : (o : Place) → field_at 2 w i 0 ≡ 0 → DescendsFrom xs (i + 1) (d + 1) (drop (j + 1) (names t u p k)) o → DescendsFrom xs lo d ns o
+        pub walk_on : (o : Result ℕ Reason) → field_at 2 w i 0 ≡ 0 → DescendsFrom xs (i + 1) (d + 1) (drop (j + 1) (names t u p k)) o → DescendsFrom xs lo d ns o
         walk_on o z again pre q s low l is =
             let ed : d + 1 ≡ suc d = add-one d in
             let ej : j + 1 ≡ suc j = add-one j in

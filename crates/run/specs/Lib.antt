@@ -1,4 +1,5 @@
 pub mod Paths
+pub mod Known
 pub mod Puts
 pub mod Listed
 pub mod Takes
@@ -6,3 +7,4 @@ pub mod Stepping
 pub mod Items
 pub mod Blocks
 pub mod Runs
+pub mod Wanted

@@ -1,17 +1,16 @@
 -- What it is that a path leads somewhere among the rows of a store. Assumes nothing.
-use Rattle.std.specs.Prelude.{ℕ, suc, ◌+◌, ◌≤◌, ◌<◌, ◌≡◌, List, [], ◌∷◌, ◌++◌, length, take}
+use Rattle.std.specs.Prelude.{ℕ, suc, ◌+◌, ◌≤◌, ◌<◌, ◌≡◌, List, [], ◌∷◌, ◌++◌, length, take, Result, Ok, Err}
+use Rattle.std.specs.Prelude as Std
 use Rattle.std.proofs.Math.Option.{Option, none, some}
 use Rattle.paper.specs.Answer.{Answer, ok, refused}
 use Rattle.paper.specs.Syntax.{Name, Path}
 use Rattle.paper.specs.Store.{Store, Value, component, put, find, resolve_in, bind}
 use Rattle.paper.specs.Layout.{Row}
 use Rattle.paper.specs.DecodeAt.{word}
+use Rattle.refusal.specs.Refused.{number_of}
+use Rattle.refusal.specs.declared.Reason.{Reason}
 use Rattle.rows.specs.View.{name_of, groups}
 use Rattle.rows.specs.Flat.{flat, flat_value, Low}
-use Rattle.rows.specs.declared.search.Found.{Found}
-use Rattle.rows.specs.declared.search.Found.TheVariants.{At, Nothing}
-use Rattle.run.specs.declared.place.Place.{Place}
-use Rattle.run.specs.declared.place.Place.TheVariants.{In, Absent, NoComponent}
 
 -- a path's names, from the places of their texts, each u16
 unfoldable pub names : List ℕ → List ℕ → List ℕ → ℕ → Path
@@ -41,19 +40,17 @@ pub record Missing (k : ℕ) (ns : Path) (s : Store) : Type 0 where
   pub finds : (m : Name) (r : Path) → find (ns ++ (m ∷ r)) (component s) ≡ none
 
 -- "on the target's path a name is absent / no component", 14, 15
-abbrev pub Descends : List Row → ℕ → Path → List Row → List Row → Store → Place → Type 0
-Descends xs d ns pre q s (In lo) = Reached xs d ns pre q s lo
-Descends xs d ns pre q s Absent = Missing 14 ns s
-Descends xs d ns pre q s NoComponent = Missing 15 ns s
+abbrev pub Descends : List Row → ℕ → Path → List Row → List Row → Store → Result ℕ Reason → Type 0
+Descends xs d ns pre q s (Ok lo) = Reached xs d ns pre q s lo
+Descends xs d ns pre q s (Err reason) = Missing (number_of reason) ns s
 
 -- a place that is given stands among the n rows, or behind the last
-abbrev pub PlaceIn : ℕ → Place → Type 0
-PlaceIn n (In lo) = lo ≤ n
-PlaceIn n Absent = Unit {0}
-PlaceIn n NoComponent = Unit {0}
+abbrev pub PlaceIn : ℕ → Result ℕ Reason → Type 0
+PlaceIn n (Ok lo) = lo ≤ n
+PlaceIn n (Err reason) = Unit {0}
 
 -- the same for every store whose attributes, of depth d, begin at row lo
-abbrev pub DescendsFrom : List Row → ℕ → ℕ → Path → Place → Type 0
+abbrev pub DescendsFrom : List Row → ℕ → ℕ → Path → Result ℕ Reason → Type 0
 DescendsFrom xs lo d ns r = (pre q : List Row) (s : Store) → Low d q → length pre ≡ lo → xs ≡ pre ++ (flat d s ++ q) → Descends xs d ns pre q s r
 
 -- ---- find
@@ -69,22 +66,22 @@ pub record StandsAt (xs : List Row) (v : Value) (i : ℕ) : Type 0 where
   pub rows : xs ≡ before ++ (flat_value depth name v ++ after)
 
 -- "a lookup finds a value or finds nothing"
-abbrev pub FindIs : List Row → Option Value → Found → Type 0
-FindIs xs o (At i) = (v : Value) × (o ≡ some v) × StandsAt xs v i
-FindIs xs o Nothing = o ≡ none
+abbrev pub FindIs : List Row → Option Value → Std.Option ℕ → Type 0
+FindIs xs o (Std.Some i) = (v : Value) × (o ≡ some v) × StandsAt xs v i
+FindIs xs o Std.None = o ≡ none
 
 -- what is found stands among the n rows
-abbrev pub FoundIn : ℕ → Found → Type 0
-FoundIn n (At i) = i < n
-FoundIn n Nothing = Unit {0}
+abbrev pub FoundIn : ℕ → Std.Option ℕ → Type 0
+FoundIn n (Std.Some i) = i < n
+FoundIn n Std.None = Unit {0}
 
 -- the same from the attributes of depth d that begin at row lo; and from the root
-abbrev pub FindsFrom : List Row → ℕ → ℕ → Path → Found → Type 0
+abbrev pub FindsFrom : List Row → ℕ → ℕ → Path → Std.Option ℕ → Type 0
 FindsFrom xs lo d r o = (pre q : List Row) (s : Store) → Low d q → length pre ≡ lo → xs ≡ pre ++ (flat d s ++ q) → FindIs xs (find r (component s)) o
 
-abbrev pub FindsIn : List Row → Path → Found → Type 0
+abbrev pub FindsIn : List Row → Path → Std.Option ℕ → Type 0
 FindsIn xs r o = (s : Store) → xs ≡ flat 1 s → FindIs xs (find r (component s)) o
 
 -- resolve, with the first k names of every scope that begins with these
-abbrev pub ResolvesIn : List Row → ℕ → Path → Path → Found → Type 0
+abbrev pub ResolvesIn : List Row → ℕ → Path → Path → Std.Option ℕ → Type 0
 ResolvesIn xs k ns r o = (s : Store) (scope : Path) → xs ≡ flat 1 s → take k scope ≡ ns → FindIs xs (resolve_in k scope r s) o

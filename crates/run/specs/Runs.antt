@@ -1,6 +1,6 @@
 -- The operation: what the code answers as the paper's answer, and what it must be. Assumes nothing.
-use Rattle.std.specs.Prelude.{ℕ, ◌≡◌, List, [], ◌∷◌, length, leb}
-use Rattle.paper.specs.Answer.{ok, refused, demand, ◌>>=◌}
+use Rattle.std.specs.Prelude.{ℕ, ◌≡◌, List, [], ◌∷◌, length, leb, Result}
+use Rattle.paper.specs.Answer.{ok, demand, ◌>>=◌}
 use Rattle.paper.specs.Answer as Paper
 use Rattle.paper.specs.Store.{Store}
 use Rattle.paper.specs.Meaning.{main}
@@ -12,12 +12,12 @@ use Rattle.paper.specs.StepDecoder.{block_of}
 use Rattle.paper.specs.Operations.{or_refused}
 use Rattle.paper.specs.Lent.{Outcome, told, written, cleared}
 use Rattle.paper.specs.WellFormed.{IsBounded}
+use Rattle.refusal.specs.Refused.{answered}
+use Rattle.refusal.specs.declared.Refusal.{Refusal}
 use Rattle.forms.specs.Header.{text_of}
 use Rattle.rows.specs.View.{view}
 use Rattle.rows.specs.Flat.{flat}
-use Rattle.run.specs.declared.block.Went.{Went}
-use Rattle.run.specs.declared.operation.Answer.{Answer}
-use Rattle.run.specs.declared.operation.Answer.TheVariants.{Done, Refused}
+use Rattle.run.specs.declared.block.Next.{Next}
 use Rattle.run.specs.Blocks.{WentIs, NextIn}
 
 -- ---- the paper's answers
@@ -60,23 +60,18 @@ runs_main list start output work₁ work₂ =
 
 -- ---- the code's
 
--- the paper's number and values for each case
-abbrev pub answered : Answer → Paper.Answer ℕ
-answered (Done n) = ok n
-answered (Refused n p) = refused n p
-
 -- the answer and the lent slices, as one outcome
-abbrev pub outcome : Answer → List ℕ → List ℕ → List ℕ → Outcome
+abbrev pub outcome : Result ℕ Refusal → List ℕ → List ℕ → List ℕ → Outcome
 outcome r output work₁ work₂ = record { answer = answered r; output = output; works = work₁ ∷ work₂ ∷ [] }
 
 -- the answer and the output, of what the paper answers
-abbrev pub AnsweredIs : Paper.Answer (List ℕ) → List ℕ → List ℕ → Answer → Type 0
+abbrev pub AnsweredIs : Paper.Answer (List ℕ) → List ℕ → List ℕ → Result ℕ Refusal → Type 0
 AnsweredIs a output output' r = (answered r ≡ told a) × (output' ≡ written a output)
 
 -- the rows in w' are the store's
-abbrev pub EvaluatedIs : List ℕ → List ℕ → List ℕ → Went → Type 0
+abbrev pub EvaluatedIs : List ℕ → List ℕ → List ℕ → Result Next Refusal → Type 0
 EvaluatedIs list start w' r = (next : ℕ) × (NextIn 0 r) × WentIs (view (text_of list) (text_of start) w') next (store_of list start) r
 
 -- what is made of rows that are a store's: the table of its `sfConfig`
-abbrev pub MainIs : List ℕ → List ℕ → List ℕ → ℕ → List ℕ → List ℕ → Answer → Type 0
+abbrev pub MainIs : List ℕ → List ℕ → List ℕ → ℕ → List ℕ → List ℕ → Result ℕ Refusal → Type 0
 MainIs t u w n output output' r = (s : Store) → IsBounded s → view t u w n ≡ flat 1 s → AnsweredIs (main_of (ok s)) output output' r

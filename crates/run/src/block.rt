@@ -1,47 +1,39 @@
 // Statements and prototypes of a step list, over the store: steps nest as the grammar nests.
 ghost use Rattle.std.specs.Prelude.{◌≡◌, ◌+◌, ◌-◌, ◌≤◌, ◌<◌, length};
 ghost use Rattle.run.specs.Listed.{step_field};
-ghost use Rattle.run.specs.Blocks.{begins_statement, begins_prototype, Placed, NextIn, KeptTo, ComponentIs, StatementIs, StatementsAre, PrototypeIs, PrototypesAre};
+ghost use Rattle.run.specs.Blocks.{begins_statement, begins_prototype, Placed, NextIn, KeptTo, ComponentIs};
+ghost use Rattle.run.specs.Blocks.{StatementIs, StatementsAre, PrototypeIs, PrototypesAre};
 
-use crate::list::{path_at, place_at, span_at, step_at};
-use crate::put::Ran;
+use crate::known::{Names, Program, Records};
+use crate::list::record_at;
+use crate::size::{PATH, RECORDS, Size, Work};
 use crate::step::{link, make, put_names, set, take};
+use kinds::Step;
+use refusal::{Reason, Refusal};
 
-// Where the names of scope and target stand in the second work slice.
-const PATH: usize = 32768;
-
-// As many records as a list may have.
-const RECORDS: usize = 1024;
-
-// Where the run goes on, with the size of the store; or a refusal.
+// Where the run goes on, with the size of the store.
 #[derive(Clone, Copy)]
-pub enum Went {
-    Next {
-        record: usize,
-        rows: usize,
-        text: usize,
-    },
-    Refused {
-        number: usize,
-        place: usize,
-    },
+pub(crate) struct Next {
+    pub index: usize,
+    pub size: Size,
 }
 
 // What became of the step at record i, with its place.
-fn placed(list: &[u8], i: usize, ran: Ran, next: usize) -> Went
+fn placed(
+    list: Records<'_>,
+    i: usize,
+    ran: Result<Size, Reason>,
+    next: usize,
+) -> Result<Next, Refusal>
     requires { i ≤ 1024 }
-    ensures { result ≡ Placed (step_field 4 list.now i 16) next ran }
+    ensures { result ≡ Placed (step_field 4 list.entry.bytes.now i 16) next ran }
 {
     match ran {
-        Ran::Done { rows, text } => Went::Next {
-            record: next,
-            rows,
-            text,
-        },
-        Ran::Refused(number) => Went::Refused {
-            number,
-            place: place_at(list, i),
-        },
+        Ok(size) => Ok(Next { index: next, size }),
+        Err(reason) => Err(Refusal {
+            reason,
+            place: record_at(list, i).place,
+        }),
     }
 }
 
@@ -49,225 +41,172 @@ fn placed(list: &[u8], i: usize, ran: Ran, next: usize) -> Went
 fn behind(i: usize) -> usize
     ensures { (result ≤ 1024) × (i ≤ 1024 → i ≤ result) × (i < 1024 → result ≡ i + 1) }
 {
-    if i < RECORDS { i + 1 } else { RECORDS }
+    i.saturating_add(1).min(RECORDS)
 }
 
 // The record behind a set and its items.
-fn behind_set(list: &[u8], i: usize) -> usize
+fn behind_set(list: Records<'_>, i: usize) -> usize
     requires { i < 1024 }
-    ensures { (i < result) × (result ≤ 1024) × (1 ≤ step_field 2 list.now i 6 → i + step_field 2 list.now i 6 ≤ 1024 → result ≡ i + step_field 2 list.now i 6) }
+    ensures { (i < result) × (result ≤ 1024)
+        × (1 ≤ step_field 2 list.entry.bytes.now i 6 → i + step_field 2 list.entry.bytes.now i 6 ≤ 1024 → result ≡ i +
+        step_field 2 list.entry.bytes.now i 6) }
 {
-    let span = span_at(list, i);
-    if span < 1 {
-        return i + 1;
+    let span = record_at(list, i).span;
+    if 1 <= span && span <= RECORDS - i {
+        i + span
+    } else {
+        i + 1
     }
-    if RECORDS - i < span {
-        return i + 1;
-    }
-    i + span
 }
 
-// Make, set and link begin a statement.
-fn begins(step: usize) -> bool
-    ensures { result ≡ begins_statement step }
+fn begins(list: Records<'_>, i: usize) -> bool
+    requires { i ≤ 1024 }
+    ensures { result ≡ begins_statement (step_field 2 list.entry.bytes.now i 0) }
 {
-    if step == 1 {
-        return true;
-    }
-    if step == 6 {
-        return true;
-    }
-    step == 8
+    matches!(record_at(list, i).step, Step::Make | Step::Set | Step::Link)
 }
 
-// Take and enter begin a prototype.
-fn extends(step: usize) -> bool
-    ensures { result ≡ begins_prototype step }
+fn extends(list: Records<'_>, i: usize) -> bool
+    requires { i ≤ 1024 }
+    ensures { result ≡ begins_prototype (step_field 2 list.entry.bytes.now i 0) }
 {
-    if step == 2 {
-        return true;
-    }
-    step == 3
+    matches!(record_at(list, i).step, Step::Take | Step::Enter)
 }
 
 // A component at the own names: an empty one, and then its prototypes.
 #[cycle(component_prototype_prototypes_statement_statements)]
 fn component<'a>(
-    list: &[u8],
-    i: usize,
-    w: &mut [u8],
-    n: usize,
-    text: usize,
-    s: &mut [u8],
-    k: usize,
-    own: usize,
-    t: &'a [u8],
-    u: &'a [u8],
-) -> Went
-    requires { (i < 1024) × (n ≤ 1024) × (text ≤ 16384) × (length list.now ≤ 20480) × (k ≤ 32) × (k < own) × (own ≤ 64) × (65536 ≤ length w.old) × (65536 ≤ length s.old) }
-    ensures { (NextIn (i + 1) result) × (KeptTo k s.old s.new) × (ComponentIs list.now i t.now u.now n text k own s.old w.old w.new result) }
+    program: Program<'a>,
+    from: Next,
+    w: &mut Work,
+    s: &mut Work,
+    names: Names,
+) -> Result<Next, Refusal>
+    requires { from.index < 1024 }
+    ensures { (NextIn (from.index + 1) result) × (KeptTo names.scope s.old s.new)
+        × (ComponentIs program.entry.steps.bytes.now from.index program.entry.texts.list.now
+        program.entry.texts.table.now from.size.rows from.size.text names.scope names.own s.old w.old w.new result) }
 {
-    match make(w, n, text, s, own, t, u) {
-        Ran::Done { rows, text: bytes } => prototypes(list, i + 1, w, rows, bytes, s, k, own, t, u),
-        Ran::Refused(number) => Went::Refused {
-            number,
-            place: place_at(list, i),
-        },
-    }
+    let i = from.index;
+    let ran = make(w, from.size, s, names.own, program.texts);
+    let next = placed(program.steps, i, ran, i + 1)?;
+    prototypes(program, next, w, s, names)
 }
 
-// The statement at record i, in the scope of the first k names.
+// The statement at a record, in the scope of the first k names.
 #[cycle(component_prototype_prototypes_statement_statements)]
 fn statement<'a>(
-    list: &[u8],
-    i: usize,
-    w: &mut [u8],
-    n: usize,
-    text: usize,
-    s: &mut [u8],
+    program: Program<'a>,
+    from: Next,
+    w: &mut Work,
+    s: &mut Work,
     k: usize,
-    t: &'a [u8],
-    u: &'a [u8],
-) -> Went
-    requires { (i < 1024) × (n ≤ 1024) × (text ≤ 16384) × (length list.now ≤ 20480) × (k ≤ 32) × (65536 ≤ length w.old) × (65536 ≤ length s.old) }
-    ensures { (NextIn (i + 1) result) × (KeptTo k s.old s.new) × (StatementIs list.now i t.now u.now n text k s.old w.old w.new result) }
+) -> Result<Next, Refusal>
+    requires { (from.index < 1024) × (k ≤ 32) }
+    ensures { (NextIn (from.index + 1) result) × (KeptTo k s.old s.new)
+        × (StatementIs program.entry.steps.bytes.now from.index program.entry.texts.list.now
+        program.entry.texts.table.now from.size.rows from.size.text k s.old w.old w.new result) }
 {
-    let names = put_names(t, path_at(list, i), s, PATH + k * 2);
-    if names < 1 {
-        return Went::Refused {
-            number: 21,
-            place: place_at(list, i),
-        };
+    let i = from.index;
+    let record = record_at(program.steps, i);
+    let Some(count) = put_names(program.texts.list, record.path, s, PATH + k * 2) else {
+        return Err(Refusal {
+            reason: Reason::TargetIsRoot,
+            place: record.place,
+        });
+    };
+    let names = Names {
+        scope: k,
+        own: k + count,
+    };
+    match record.step {
+        Step::Set => {
+            let ran = set(program, i, w, from.size, s, names.own);
+            placed(program.steps, i, ran, behind_set(program.steps, i))
+        }
+        Step::Link => {
+            let ran = link(program, i, w, from.size, s, names);
+            placed(program.steps, i, ran, i + 1)
+        }
+        _ => component(program, from, w, s, names),
     }
-    let own = k + names;
-    let step = step_at(list, i);
-    if step == 6 {
-        let ran = set(list, i, w, n, text, s, own, t, u);
-        return placed(list, i, ran, behind_set(list, i));
-    }
-    if step == 8 {
-        let ran = link(list, i, w, n, text, s, k, own, t, u);
-        return placed(list, i, ran, i + 1);
-    }
-    component(list, i, w, n, text, s, k, own, t, u)
 }
 
-// Statements from record `first` on, up to what is none.
+// Statements from a record on, up to what is none.
 #[cycle(component_prototype_prototypes_statement_statements)]
 pub(crate) fn statements<'a>(
-    list: &[u8],
-    first: usize,
-    w: &mut [u8],
-    n: usize,
-    text: usize,
-    s: &mut [u8],
+    program: Program<'a>,
+    from: Next,
+    w: &mut Work,
+    s: &mut Work,
     k: usize,
-    t: &'a [u8],
-    u: &'a [u8],
-) -> Went
-    requires { (first ≤ 1024) × (n ≤ 1024) × (text ≤ 16384) × (length list.now ≤ 20480) × (k ≤ 32) × (65536 ≤ length w.old) × (65536 ≤ length s.old) }
-    ensures { (NextIn first result) × (KeptTo k s.old s.new) × (StatementsAre list.now first t.now u.now n text k s.old w.old w.new result) }
+) -> Result<Next, Refusal>
+    requires { (from.index ≤ 1024) × (k ≤ 32) }
+    ensures { (NextIn from.index result) × (KeptTo k s.old s.new)
+        × (StatementsAre program.entry.steps.bytes.now from.index program.entry.texts.list.now
+        program.entry.texts.table.now from.size.rows from.size.text k s.old w.old w.new result) }
 {
-    let mut i = first;
-    let mut rows = n;
-    let mut bytes = text;
-    while begins(step_at(list, i)) {
-        match statement(list, i, w, rows, bytes, s, k, t, u) {
-            Went::Next {
-                record: next,
-                rows: r,
-                text: b,
-            } => {
-                i = next;
-                rows = r;
-                bytes = b;
-            }
-            Went::Refused { number, place } => {
-                return Went::Refused { number, place };
-            }
-        }
+    let mut next = from;
+    while begins(program.steps, next.index) {
+        next = statement(program, next, w, s, k)?;
     }
-    Went::Next {
-        record: i,
-        rows,
-        text: bytes,
-    }
+    Ok(next)
 }
 
-// The prototype at record i, of the component at the own names; the first k are the statement's scope.
+// The prototype at a record, of the component at the own names.
 #[cycle(component_prototype_prototypes_statement_statements)]
 fn prototype<'a>(
-    list: &[u8],
-    i: usize,
-    w: &mut [u8],
-    n: usize,
-    text: usize,
-    s: &mut [u8],
-    k: usize,
-    own: usize,
-    t: &'a [u8],
-    u: &'a [u8],
-) -> Went
-    requires { (i < 1024) × (n ≤ 1024) × (text ≤ 16384) × (length list.now ≤ 20480) × (k ≤ 32) × (k < own) × (own ≤ 32) × (65536 ≤ length w.old) × (65536 ≤ length s.old) }
-    ensures { (NextIn (i + 1) result) × (KeptTo own s.old s.new) × (PrototypeIs list.now i t.now u.now n text k own s.old w.old w.new result) }
+    program: Program<'a>,
+    from: Next,
+    w: &mut Work,
+    s: &mut Work,
+    names: Names,
+) -> Result<Next, Refusal>
+    requires { (from.index < 1024) × (names.own ≤ 32) }
+    ensures { (NextIn (from.index + 1) result) × (KeptTo names.own s.old s.new)
+        × (PrototypeIs program.entry.steps.bytes.now from.index program.entry.texts.list.now
+        program.entry.texts.table.now from.size.rows from.size.text names.scope names.own s.old w.old w.new result) }
 {
-    if step_at(list, i) == 2 {
-        let ran = take(list, i, w, n, text, s, k, own, t, u);
-        return placed(list, i, ran, i + 1);
-    }
-    match statements(list, i + 1, w, n, text, s, own, t, u) {
-        Went::Next {
-            record: at,
-            rows,
-            text: bytes,
-        } => Went::Next {
-            record: behind(at),
-            rows,
-            text: bytes,
-        },
-        Went::Refused { number, place } => Went::Refused { number, place },
+    let i = from.index;
+    match record_at(program.steps, i).step {
+        Step::Take => {
+            let ran = take(program, i, w, from.size, s, names);
+            placed(program.steps, i, ran, i + 1)
+        }
+        _ => {
+            let first = Next {
+                index: i + 1,
+                size: from.size,
+            };
+            let leave = statements(program, first, w, s, names.own)?;
+            Ok(Next {
+                index: behind(leave.index),
+                size: leave.size,
+            })
+        }
     }
 }
 
-// The prototypes from record `first` on, and the done behind them.
+// The prototypes from a record on, and the done behind them.
 #[cycle(component_prototype_prototypes_statement_statements)]
 fn prototypes<'a>(
-    list: &[u8],
-    first: usize,
-    w: &mut [u8],
-    n: usize,
-    text: usize,
-    s: &mut [u8],
-    k: usize,
-    own: usize,
-    t: &'a [u8],
-    u: &'a [u8],
-) -> Went
-    requires { (first ≤ 1024) × (n ≤ 1024) × (text ≤ 16384) × (length list.now ≤ 20480) × (k ≤ 32) × (k < own) × (own ≤ 32) × (65536 ≤ length w.old) × (65536 ≤ length s.old) }
-    ensures { (NextIn first result) × (KeptTo own s.old s.new) × (PrototypesAre list.now first t.now u.now n text k own s.old w.old w.new result) }
+    program: Program<'a>,
+    from: Next,
+    w: &mut Work,
+    s: &mut Work,
+    names: Names,
+) -> Result<Next, Refusal>
+    requires { (from.index ≤ 1024) × (names.own ≤ 32) }
+    ensures { (NextIn from.index result) × (KeptTo names.own s.old s.new)
+        × (PrototypesAre program.entry.steps.bytes.now from.index program.entry.texts.list.now
+        program.entry.texts.table.now from.size.rows from.size.text names.scope names.own s.old w.old w.new result) }
 {
-    let mut i = first;
-    let mut rows = n;
-    let mut bytes = text;
-    while extends(step_at(list, i)) {
-        match prototype(list, i, w, rows, bytes, s, k, own, t, u) {
-            Went::Next {
-                record: at,
-                rows: r,
-                text: b,
-            } => {
-                i = at;
-                rows = r;
-                bytes = b;
-            }
-            Went::Refused { number, place } => {
-                return Went::Refused { number, place };
-            }
-        }
+    let mut next = from;
+    while extends(program.steps, next.index) {
+        next = prototype(program, next, w, s, names)?;
     }
-    Went::Next {
-        record: behind(i),
-        rows,
-        text: bytes,
-    }
+    Ok(Next {
+        index: behind(next.index),
+        size: next.size,
+    })
 }

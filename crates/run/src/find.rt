@@ -1,84 +1,72 @@
 // What a reference finds.
 ghost use Rattle.std.specs.Prelude.{◌++◌, ◌+◌, ◌*◌, ◌≤◌, length};
-ghost use Rattle.rows.specs.View.{view};
-ghost use Rattle.run.specs.Paths.{names, FoundIn, FindsFrom, FindsIn, ResolvesIn};
+ghost use Rattle.run.specs.Paths.{FoundIn, FindsFrom, FindsIn, ResolvesIn};
+ghost use Rattle.run.specs.Known.{rows_of, names_of};
 
-use crate::place::{Place, descend};
+use crate::known::{Known, Path};
+use crate::place::descend;
 use memory::get16;
-use rows::search::{Found, child};
-use rows::text::name_of;
+use rows::text::Texts;
 
-// The reference's names, m of them, followed from the attributes of depth d that begin at row lo.
+// The reference's names, followed from the attributes of depth d that begin at row lo.
 fn find_from<'a>(
-    w: &[u8],
-    n: usize,
+    store: Known<'a>,
     lo: usize,
     d: usize,
-    refs: &[u8],
-    m: usize,
-    t: &'a [u8],
-    u: &'a [u8],
-) -> Found
-    requires { (lo ≤ n) × (n ≤ 4096) × (n * 16 ≤ length w.now) × (m * 2 ≤ length refs.now) × (1 ≤ m) × (m ≤ 64) × (d ≤ 64) }
-    ensures { (FoundIn n result) × (FindsFrom (view t.now u.now w.now n) lo d (names t.now u.now refs.now m) result) }
+    reference: Path<'a>,
+    texts: Texts<'a>,
+) -> Option<usize>
+    requires { (lo ≤ store.rows.count) × (1 ≤ reference.count) × (d ≤ 64) }
+    ensures { (FoundIn store.entry.rows.count result)
+        × (FindsFrom (rows_of texts.entry store.entry) lo d (names_of texts.entry reference.entry) result) }
 {
-    let last = m - 1;
-    match descend(w, n, lo, d, refs, 0, last, t, u) {
-        Place::In(inner) => child(
-            w,
-            n,
-            inner,
-            d + last,
-            t,
-            u,
-            name_of(t, u, get16(refs, last * 2) as usize),
-        ),
-        Place::Absent => Found::Nothing,
-        Place::NoComponent => Found::Nothing,
-    }
+    let last = reference.count - 1;
+    let front = Path {
+        places: reference.places,
+        count: last,
+    };
+    let inner = descend(store, lo, d, front, 0, texts).ok()?;
+    let name = texts.name_of(usize::from(get16(reference.places, last * 2)));
+    store.rows.child(inner, d + last, texts, name)
 }
 
 // Scope joined with the whole reference.
 fn find<'a>(
-    w: &[u8],
-    n: usize,
-    scope: &[u8],
-    k: usize,
-    refs: &[u8],
-    m: usize,
-    t: &'a [u8],
-    u: &'a [u8],
-) -> Found
-    requires { (n ≤ 4096) × (n * 16 ≤ length w.now) × (m * 2 ≤ length refs.now) × (1 ≤ m) × (m ≤ 64) × (k * 2 ≤ length scope.now) × (k ≤ 32) }
-    ensures { (FoundIn n result) × (FindsIn (view t.now u.now w.now n) (names t.now u.now scope.now k ++ names t.now u.now refs.now m) result) }
+    store: Known<'a>,
+    scope: Path<'a>,
+    reference: Path<'a>,
+    texts: Texts<'a>,
+) -> Option<usize>
+    requires { (1 ≤ reference.count) × (scope.count ≤ 32) }
+    ensures { (FoundIn store.entry.rows.count result)
+        × (FindsIn (rows_of texts.entry store.entry) (names_of texts.entry scope.entry ++ names_of texts.entry
+        reference.entry) result) }
 {
-    match descend(w, n, 0, 1, scope, 0, k, t, u) {
-        Place::In(lo) => find_from(w, n, lo, 1 + k, refs, m, t, u),
-        Place::Absent => Found::Nothing,
-        Place::NoComponent => Found::Nothing,
-    }
+    let lo = descend(store, 0, 1, scope, 0, texts).ok()?;
+    find_from(store, lo, 1 + scope.count, reference, texts)
 }
 
 // The last name of the scope is dropped, and the search is made again.
 pub(crate) fn resolve<'a>(
-    w: &[u8],
-    n: usize,
-    scope: &[u8],
-    k: usize,
-    refs: &[u8],
-    m: usize,
-    t: &'a [u8],
-    u: &'a [u8],
-) -> Found
-    requires { (n ≤ 4096) × (n * 16 ≤ length w.now) × (m * 2 ≤ length refs.now) × (1 ≤ m) × (m ≤ 64) × (k * 2 ≤ length scope.now) × (k ≤ 32) }
-    ensures { (FoundIn n result) × (ResolvesIn (view t.now u.now w.now n) k (names t.now u.now scope.now k) (names t.now u.now refs.now m) result) }
+    store: Known<'a>,
+    scope: Path<'a>,
+    reference: Path<'a>,
+    texts: Texts<'a>,
+) -> Option<usize>
+    requires { (1 ≤ reference.count) × (scope.count ≤ 32) }
+    ensures { (FoundIn store.entry.rows.count result)
+        × (ResolvesIn (rows_of texts.entry store.entry) scope.entry.count (names_of texts.entry scope.entry) (names_of
+        texts.entry reference.entry) result) }
 {
-    let found = find(w, n, scope, k, refs, m, t, u);
-    let Found::At(i) = found else {
-        if k == 0 {
-            return Found::Nothing;
+    let Some(i) = find(store, scope, reference, texts) else {
+        if scope.count == 0 {
+            return None;
         }
-        return resolve(w, n, scope, k - 1, refs, m, t, u);
+        let outer = Path {
+            places: scope.places,
+            count: scope.count - 1,
+        };
+        return resolve(store, outer, reference, texts);
     };
-    Found::At(i)
+    Some(i)
 }

@@ -1,50 +1,35 @@
-// The numbers of a step list's records.
+// The records of a step list.
 ghost use Rattle.std.specs.Prelude.{◌≡◌, ◌≤◌};
-ghost use Rattle.run.specs.Listed.{step_field};
+ghost use Rattle.run.specs.Listed.{RecordIs};
 
+use crate::known::Records;
+use forms::STEP_RECORD as RECORD;
+use kinds::Step;
 use memory::{get16, get32, get64};
 
-const RECORD: usize = 20;
-
-// The sum with 0 stands as in the definition, so that no proof has to add it.
-pub(crate) fn step_at(list: &[u8], i: usize) -> usize
-    requires { i ≤ 1024 }
-    ensures { result ≡ step_field 2 list.now i 0 }
-{
-    get16(list, i * RECORD + 0) as usize
+// The numbers of a record. kind is a number and no Kind: it goes into a row as it is.
+#[derive(Clone, Copy)]
+pub(crate) struct Record {
+    pub step: Step,
+    pub kind: u16,
+    pub path: usize,
+    pub span: usize,
+    pub value: u64,
+    pub place: usize,
 }
 
-pub(crate) fn kind_at(list: &[u8], i: usize) -> usize
+// A number that no step has, as the 0 behind the list, is read as done, with which nothing begins.
+pub(crate) fn record_at(list: Records<'_>, i: usize) -> Record
     requires { i ≤ 1024 }
-    ensures { result ≡ step_field 2 list.now i 2 }
+    ensures { RecordIs list.entry.bytes.now i result }
 {
-    get16(list, i * RECORD + 2) as usize
-}
-
-pub(crate) fn path_at(list: &[u8], i: usize) -> usize
-    requires { i ≤ 1024 }
-    ensures { result ≡ step_field 2 list.now i 4 }
-{
-    get16(list, i * RECORD + 4) as usize
-}
-
-pub(crate) fn span_at(list: &[u8], i: usize) -> usize
-    requires { i ≤ 1024 }
-    ensures { result ≡ step_field 2 list.now i 6 }
-{
-    get16(list, i * RECORD + 6) as usize
-}
-
-pub(crate) fn value_at(list: &[u8], i: usize) -> u64
-    requires { i ≤ 1024 }
-    ensures { result ≡ step_field 8 list.now i 8 }
-{
-    get64(list, i * RECORD + 8)
-}
-
-pub(crate) fn place_at(list: &[u8], i: usize) -> usize
-    requires { i ≤ 1024 }
-    ensures { result ≡ step_field 4 list.now i 16 }
-{
-    get32(list, i * RECORD + 16) as usize
+    let at = i * RECORD;
+    Record {
+        step: Step::try_from(get16(list.bytes, at)).unwrap_or(Step::Done),
+        kind: get16(list.bytes, at + 2),
+        path: usize::from(get16(list.bytes, at + 4)),
+        span: usize::from(get16(list.bytes, at + 6)),
+        value: get64(list.bytes, at + 8),
+        place: get32(list.bytes, at + 16) as usize,
+    }
 }

@@ -1,46 +1,38 @@
 // Where paths lead in the store.
 ghost use Rattle.std.specs.Prelude.{◌≡◌, ◌+◌, ◌*◌, ◌≤◌, length, drop};
-ghost use Rattle.rows.specs.View.{view};
-ghost use Rattle.run.specs.Paths.{names, PlaceIn, DescendsFrom};
+ghost use Rattle.run.specs.Paths.{PlaceIn, DescendsFrom};
+ghost use Rattle.run.specs.Known.{rows_of, names_of};
 
+use crate::known::{Known, Path};
+use kinds::Kind;
 use memory::get16;
+use refusal::Reason;
 use rows::row::kind_at;
-use rows::search::{Found, child};
-use rows::text::name_of;
+use rows::text::Texts;
 
-// The rows of a component's attributes begin here; or a name of the path is absent, or has no component.
-#[derive(Clone, Copy)]
-pub enum Place {
-    In(usize),
-    Absent,
-    NoComponent,
-}
-
-// From the attributes of depth d that begin at row lo, down the path's names from the jth on.
+// From the attributes of depth d that begin at row lo, down the path's names from the jth on, to the row where the
+// attributes of the component begin to which they lead.
 pub(crate) fn descend<'a>(
-    w: &[u8],
-    n: usize,
+    store: Known<'a>,
     lo: usize,
     d: usize,
-    path: &[u8],
+    path: Path<'a>,
     j: usize,
-    k: usize,
-    t: &'a [u8],
-    u: &'a [u8],
-) -> Place
-    requires { (lo ≤ n) × (n ≤ 4096) × (n * 16 ≤ length w.now) × (k * 2 ≤ length path.now) × (j ≤ k) × (k ≤ 64) × (d ≤ 64 + j) }
-    ensures { (PlaceIn n result) × (DescendsFrom (view t.now u.now w.now n) lo d (drop j (names t.now u.now path.now k)) result) }
+    texts: Texts<'a>,
+) -> Result<usize, Reason>
+    requires { (lo ≤ store.rows.count) × (j ≤ path.count) × (d ≤ 64 + j) }
+    ensures { (PlaceIn store.entry.rows.count result)
+        × (DescendsFrom (rows_of texts.entry store.entry) lo d (drop j (names_of texts.entry path.entry)) result) }
 {
-    if j == k {
-        return Place::In(lo);
+    if j == path.count {
+        return Ok(lo);
     }
-    let name = name_of(t, u, get16(path, j * 2) as usize);
-    let found = child(w, n, lo, d, t, u, name);
-    let Found::At(i) = found else {
-        return Place::Absent;
+    let name = texts.name_of(usize::from(get16(path.places, j * 2)));
+    let Some(i) = store.rows.child(lo, d, texts, name) else {
+        return Err(Reason::TargetAbsent);
     };
-    if kind_at(w, i) != 0 {
-        return Place::NoComponent;
+    if kind_at(store.rows.bytes, i) != Kind::Component.number() {
+        return Err(Reason::TargetIsNoComponent);
     }
-    descend(w, n, i + 1, d + 1, path, j + 1, k, t, u)
+    descend(store, i + 1, d + 1, path, j + 1, texts)
 }

@@ -1,177 +1,172 @@
 // Puts among the rows, and the bounds after each.
-ghost use Rattle.std.specs.Prelude.{◌≡◌, ◌+◌, ◌-◌, ◌*◌, ◌≤◌, length};
+ghost use Rattle.std.specs.Prelude.{ℕ, List, ◌≡◌, ◌+◌, ◌-◌, ◌*◌, ◌≤◌, length};
 ghost use Rattle.rows.specs.View.{view};
-ghost use Rattle.run.specs.Paths.{names};
+ghost use Rattle.rows.specs.Search.{text_bytes};
+ghost use Rattle.run.specs.Known.{names_of};
 ghost use Rattle.run.specs.Puts.{ReplacedIs, PutsIn, PutsBounded, RanKept, Assigns, Copies};
 
-use crate::place::{Place, descend};
+use crate::known::{Known, Path};
+use crate::place::descend;
+use crate::size::{ROW, Size, Work};
 use moves::splice;
+use refusal::Reason;
 use rows::row::label_at;
-use rows::search::{Found, child, deepest_of, end_of, text_of};
-use rows::text::name_of;
+use rows::search::Rows;
+use rows::text::Texts;
 
-// How many rows the store has, and how many text bytes.
+// What a table may have.
+const DEPTH: usize = 32;
+
+const NODES: usize = 1024;
+
+const TEXT: usize = 16384;
+
+// How many rows and text bytes there are after a put, before they are held to the bounds.
 #[derive(Clone, Copy)]
-pub struct Size {
+pub(crate) struct Grown {
     pub rows: usize,
     pub text: usize,
 }
 
-// What became of a step: the size of the store, or a refusal's number.
-#[derive(Clone, Copy)]
-pub enum Ran {
-    Done { rows: usize, text: usize },
-    Refused(usize),
+// The text bytes of new rows; no row has more than its two bytes can tell.
+fn text_in(bytes: &[u8], count: usize) -> usize
+    requires { (count ≤ 1024) × (count * 16 ≤ length bytes.now) }
+    ensures { (result ≤ 65535 * 4096) × ((t u : List ℕ) → result ≡ text_bytes (view t u bytes.now count)) }
+{
+    Rows { bytes, count }.text_of(0, count)
 }
 
-fn less(a: usize, b: usize) -> usize
-    ensures { result ≡ a - b }
+// The rows from i up to e give way to new ones.
+fn replace(w: &mut Work, size: Size, i: usize, e: usize, new: Known<'_>) -> Grown
+    requires { (i ≤ e) × (e ≤ size.rows) }
+    ensures { ReplacedIs size.rows i e new.entry.rows.count size.text w.old new.entry.rows.bytes.now w.new result }
 {
-    if a < b { 0 } else { a - b }
-}
-
-// The rows from i up to e give way to the m rows of s.
-fn replace(w: &mut [u8], n: usize, text: usize, i: usize, e: usize, s: &[u8], m: usize) -> Size
-    requires { (n ≤ 1024) × (m ≤ 1024) × (text ≤ 16384) × (i ≤ e) × (e ≤ n) × (32768 ≤ length w.old) × (m * 16 ≤ length s.now) }
-    ensures { ReplacedIs n i e m text w.old s.now w.new result }
-{
-    let old = text_of(w, n, i, e);
-    let sum = text + text_of(s, m, 0, m);
-    splice(w, n, i, e, s, m);
-    Size {
-        rows: i + (m + (n - e)),
-        text: less(sum, old),
+    let store = Rows {
+        bytes: w,
+        count: size.rows,
+    };
+    let old = store.text_of(i, e);
+    let sum = size.text + text_in(new.rows.bytes, new.rows.count);
+    splice(w, size.rows, i, e, new.rows);
+    Grown {
+        rows: i + (new.rows.count + (size.rows - e)),
+        text: sum.saturating_sub(old),
     }
 }
 
 // A present name keeps its position, a new one goes to the end of the attributes of depth d that begin at row lo.
 fn put_in<'a>(
-    w: &mut [u8],
-    n: usize,
-    text: usize,
+    w: &mut Work,
+    size: Size,
     lo: usize,
     d: usize,
-    t: &'a [u8],
-    u: &'a [u8],
+    texts: Texts<'a>,
     name: &[u8],
-    s: &[u8],
-    m: usize,
-) -> Size
-    requires { (n ≤ 1024) × (m ≤ 1024) × (text ≤ 16384) × (lo ≤ n) × (d ≤ 64) × (32768 ≤ length w.old) × (m * 16 ≤ length s.now) }
-    ensures { PutsIn t.now u.now n lo d name.now m text w.old s.now w.new result }
+    new: Known<'a>,
+) -> Grown
+    requires { (lo ≤ size.rows) × (d ≤ 64) }
+    ensures { PutsIn texts.entry.list.now texts.entry.table.now size.rows lo d name.now new.entry.rows.count size.text
+        w.old new.entry.rows.bytes.now w.new result }
 {
-    match child(w, n, lo, d, t, u, name) {
-        Found::At(i) => {
-            let e = end_of(w, n, i + 1, d + 1);
-            replace(w, n, text, i, e, s, m)
+    let store = Rows {
+        bytes: w,
+        count: size.rows,
+    };
+    match store.child(lo, d, texts, name) {
+        Some(i) => {
+            let e = store.end_of(i + 1, d + 1);
+            replace(w, size, i, e, new)
         }
-        Found::Nothing => {
-            let e = end_of(w, n, lo, d);
-            replace(w, n, text, e, e, s, m)
+        None => {
+            let e = store.end_of(lo, d);
+            replace(w, size, e, e, new)
         }
     }
 }
 
 // Depth, nodes and text, in this order, of the store after the put; the value's own row is its least deep.
 fn put_bounded<'a>(
-    w: &mut [u8],
-    n: usize,
-    text: usize,
+    w: &mut Work,
+    size: Size,
     lo: usize,
     d: usize,
-    t: &'a [u8],
-    u: &'a [u8],
+    texts: Texts<'a>,
     name: &[u8],
-    s: &[u8],
-    m: usize,
-) -> Ran
-    requires { (n ≤ 1024) × (m ≤ 1024) × (text ≤ 16384) × (lo ≤ n) × (d ≤ 64) × (32768 ≤ length w.old) × (m * 16 ≤ length s.now) }
-    ensures { (RanKept d result) × (PutsBounded t.now u.now n lo d name.now m text w.old s.now w.new result) }
+    new: Known<'a>,
+) -> Result<Size, Reason>
+    requires { (lo ≤ size.rows) × (d ≤ 64) }
+    ensures { (RanKept d result)
+        × (PutsBounded texts.entry.list.now texts.entry.table.now size.rows lo d name.now new.entry.rows.count
+        size.text w.old new.entry.rows.bytes.now w.new result) }
 {
-    if 32 < d {
-        return Ran::Refused(16);
+    if DEPTH < d || DEPTH < new.rows.deepest_of(0, new.rows.count) {
+        return Err(Reason::TooDeep);
     }
-    if 32 < deepest_of(s, m, 0, m) {
-        return Ran::Refused(16);
+    let grown = put_in(w, size, lo, d, texts, name, new);
+    if NODES < grown.rows {
+        return Err(Reason::TooManyNodes);
     }
-    let size = put_in(w, n, text, lo, d, t, u, name, s, m);
-    if 1024 < size.rows {
-        return Ran::Refused(17);
+    if TEXT < grown.text {
+        return Err(Reason::TooMuchText);
     }
-    if 16384 < size.text {
-        return Ran::Refused(18);
-    }
-    Ran::Done {
-        rows: size.rows,
-        text: size.text,
-    }
+    Ok(Size {
+        rows: grown.rows,
+        text: grown.text,
+    })
 }
 
-// Bind at the path's k names and then this one, and then the bounds.
+// Bind at the path's names and then this one, and then the bounds.
 pub(crate) fn assign<'a>(
-    w: &mut [u8],
-    n: usize,
-    text: usize,
-    path: &[u8],
-    k: usize,
+    w: &mut Work,
+    size: Size,
+    path: Path<'a>,
     name: &[u8],
-    t: &'a [u8],
-    u: &'a [u8],
-    s: &[u8],
-    m: usize,
-) -> Ran
-    requires { (n ≤ 1024) × (m ≤ 1024) × (text ≤ 16384) × (k ≤ 63) × (k * 2 ≤ length path.now) × (32768 ≤ length w.old) × (m * 16 ≤ length s.now) }
-    ensures { (RanKept (1 + k) result) × (Assigns t.now u.now n (names t.now u.now path.now k) name.now m text w.old s.now w.new result) }
+    texts: Texts<'a>,
+    new: Known<'a>,
+) -> Result<Size, Reason>
+    requires { path.count ≤ 63 }
+    ensures { (RanKept (1 + path.entry.count) result)
+        × (Assigns texts.entry.list.now texts.entry.table.now size.rows (names_of texts.entry path.entry) name.now
+        new.entry.rows.count size.text w.old new.entry.rows.bytes.now w.new result) }
 {
-    match descend(w, n, 0, 1, path, 0, k, t, u) {
-        Place::In(lo) => put_bounded(w, n, text, lo, 1 + k, t, u, name, s, m),
-        Place::Absent => Ran::Refused(14),
-        Place::NoComponent => Ran::Refused(15),
-    }
+    let store = Known {
+        rows: Rows {
+            bytes: w,
+            count: size.rows,
+        },
+    };
+    let lo = descend(store, 0, 1, path, 0, texts)?;
+    put_bounded(w, size, lo, 1 + path.count, texts, name, new)
 }
 
-// The attributes in the m rows of s are put one by one into the component at the path's k names.
+// The attributes are put one by one into the component at the path's names.
 pub(crate) fn copy_in<'a>(
-    w: &mut [u8],
-    n: usize,
-    text: usize,
-    path: &[u8],
-    k: usize,
-    t: &'a [u8],
-    u: &'a [u8],
-    s: &[u8],
-    m: usize,
-) -> Ran
-    requires { (n ≤ 1024) × (m ≤ 1024) × (text ≤ 16384) × (k ≤ 63) × (k * 2 ≤ length path.now) × (32768 ≤ length w.old) × (m * 16 ≤ length s.now) }
-    ensures { (RanKept 0 result) × (Copies t.now u.now n (names t.now u.now path.now k) m text w.old s.now w.new result) }
+    w: &mut Work,
+    mut size: Size,
+    path: Path<'a>,
+    texts: Texts<'a>,
+    new: Known<'a>,
+) -> Result<Size, Reason>
+    requires { path.count ≤ 63 }
+    ensures { (RanKept 0 result)
+        × (Copies texts.entry.list.now texts.entry.table.now size.rows (names_of texts.entry path.entry)
+        new.entry.rows.count size.text w.old new.entry.rows.bytes.now w.new result) }
 {
-    let mut rows = n;
-    let mut bytes = text;
+    let rows = new.rows;
     let mut j = 0;
-    while j < m {
-        let at = j * 16;
-        let e = end_of(s, m, j + 1, k + 2);
-        match assign(
-            w,
-            rows,
-            bytes,
-            path,
-            k,
-            name_of(t, u, label_at(s, j) as usize),
-            t,
-            u,
-            &s[at..],
-            e - j,
-        ) {
-            Ran::Done { rows: r, text: b } => {
-                rows = r;
-                bytes = b;
-                j = e;
-            }
-            Ran::Refused(number) => {
-                return Ran::Refused(number);
-            }
-        }
+    // The next attribute begins where the rows of this one end: there is no range to go over.
+    while j < rows.count {
+        let name = texts.name_of(usize::from(label_at(rows.bytes, j)));
+        let end = rows.end_of(j + 1, path.count + 2);
+        let at = j * ROW;
+        let one = Known {
+            rows: Rows {
+                bytes: &rows.bytes[at..],
+                count: end - j,
+            },
+        };
+        size = assign(w, size, path, name, texts, one)?;
+        j = end;
     }
-    Ran::Done { rows, text: bytes }
+    Ok(size)
 }

@@ -4,192 +4,222 @@ ghost use Rattle.memory.specs.Memory.{word_at};
 ghost use Rattle.rows.specs.View.{view};
 ghost use Rattle.run.specs.Paths.{names, FoundIn, ResolvesIn};
 ghost use Rattle.run.specs.Puts.{RanKept, Copies};
-ghost use Rattle.run.specs.Stepping.{scope_in, ScopeKept, NamesPut, BindsLast, Makes, Sets, Links, Takes};
+ghost use Rattle.run.specs.Stepping.{scope_in, ScopeKept, SomeNamesPut, BindsLast, Makes, Sets, Links, Takes};
 
 use crate::find::resolve;
-use crate::list::{path_at, value_at};
+use crate::known::{Known, Names, Path, Program};
+use crate::list::record_at;
 use crate::path::put_path;
-use crate::put::{Ran, assign, copy_in};
+use crate::put::{assign, copy_in};
+use crate::size::{PATH, Size, Work};
 use crate::taken::{attributes, value};
 use crate::value::set_rows;
+use kinds::Kind;
 use memory::get16;
-use rows::row::{kind_at, put_row};
-use rows::search::Found;
-use rows::text::{byte_of, name_of};
+use refusal::Reason;
+use rows::row::{Row, kind_at, put_row};
+use rows::search::Rows;
+use rows::text::{SECOND, Texts};
 
-// Where the names of scope and target stand in the second work slice, and those of a reference.
-const PATH: usize = 32768;
-
+// Where the names of a reference stand in the second work slice.
 const REFERENCE: usize = 33024;
 
-// A text of a list begins below byte 32,768.
-const TEXT: usize = 32768;
-
-// The names of the path at p, put as places from byte `at` on; how many there are.
-pub(crate) fn put_names(t: &[u8], p: usize, s: &mut [u8], at: usize) -> usize
-    requires { (at ≤ 40000) × (65536 ≤ length s.old) }
-    ensures { NamesPut t.now p s.old at s.new result }
+// The names of the path at p, put as places from byte `at` on; how many there are, if any.
+pub(crate) fn put_names(t: &[u8], p: usize, s: &mut Work, at: usize) -> Option<usize>
+    requires { at ≤ 40000 }
+    ensures { SomeNamesPut t.now p s.old at s.new result }
 {
-    if TEXT < p {
-        return 0;
+    if SECOND < p {
+        return None;
     }
-    put_path(t, p, s, at)
+    match put_path(t, p, s, at) {
+        0 => None,
+        count => Some(count),
+    }
 }
 
-// The place of the last of the k names that stand in s; read there, since a part of s makes the proofs of callers slow.
-fn last_label(s: &[u8], k: usize) -> usize
-    requires { (1 ≤ k) × (k ≤ 64) × (65536 ≤ length s.now) }
-    ensures { (result < 32768) × (word_at 2 (drop 32768 s.now) ((k - 1) * 2) < 32768 → result ≡ word_at 2 (drop 32768 s.now) ((k - 1) * 2)) }
+// The place of the last of the k names that stand in s.
+fn last_label(s: &Work, k: usize) -> usize
+    requires { (1 ≤ k) × (k ≤ 64) }
+    ensures { (result < 32768)
+        × (word_at 2 (drop 32768 s.now) ((k - 1) * 2) < 32768 → result ≡ word_at 2 (drop 32768 s.now) ((k - 1) * 2)) }
 {
-    let p = get16(s, PATH + (k - 1) * 2) as usize;
-    if p < TEXT { p } else { 0 }
+    let p = usize::from(get16(s, PATH + (k - 1) * 2));
+    if p < SECOND { p } else { 0 }
 }
 
 // The value in the first m rows of s, bound at the k names.
 fn bind_last<'a>(
-    w: &mut [u8],
-    n: usize,
-    text: usize,
-    s: &[u8],
+    w: &mut Work,
+    size: Size,
+    s: &Work,
     k: usize,
     label: usize,
-    t: &'a [u8],
-    u: &'a [u8],
+    texts: Texts<'a>,
     m: usize,
-) -> Ran
-    requires { (n ≤ 1024) × (text ≤ 16384) × (1 ≤ k) × (k ≤ 64) × (m ≤ 1024) × (65536 ≤ length w.old) × (65536 ≤ length s.now) }
-    ensures { (RanKept k result) × (BindsLast t.now u.now n text k label m s.now w.old w.new result) }
+) -> Result<Size, Reason>
+    requires { (1 ≤ k) × (k ≤ 64) × (m ≤ 1024) }
+    ensures { (RanKept k result)
+        × (BindsLast texts.entry.list.now texts.entry.table.now size.rows size.text k label m s.now w.old w.new
+        result) }
 {
-    let name = name_of(t, u, label);
-    assign(w, n, text, &s[PATH..], k - 1, name, t, u, s, m)
+    let front = Path {
+        places: &s[PATH..],
+        count: k - 1,
+    };
+    let new = Known {
+        rows: Rows { bytes: s, count: m },
+    };
+    assign(w, size, front, texts.name_of(label), texts, new)
 }
 
 // An empty component, at the k names.
 pub(crate) fn make<'a>(
-    w: &mut [u8],
-    n: usize,
-    text: usize,
-    s: &mut [u8],
+    w: &mut Work,
+    size: Size,
+    s: &mut Work,
     k: usize,
-    t: &'a [u8],
-    u: &'a [u8],
-) -> Ran
-    requires { (n ≤ 1024) × (text ≤ 16384) × (1 ≤ k) × (k ≤ 64) × (65536 ≤ length w.old) × (65536 ≤ length s.old) }
-    ensures { (RanKept k result) × (drop 32768 s.new ≡ drop 32768 s.old) × (Makes t.now u.now n text k s.old w.old w.new result) }
+    texts: Texts<'a>,
+) -> Result<Size, Reason>
+    requires { (1 ≤ k) × (k ≤ 64) }
+    ensures { (RanKept k result) × (drop 32768 s.new ≡ drop 32768 s.old)
+        × (Makes texts.entry.list.now texts.entry.table.now size.rows size.text k s.old w.old w.new result) }
 {
     let label = last_label(s, k);
-    let size = 1 + byte_of(t, u, label);
-    put_row(s, 0, 0, k as u16, label as u16, size as u16, 0);
-    bind_last(w, n, text, s, k, label, t, u, 1)
+    let row = Row {
+        kind: Kind::Component.number(),
+        depth: k as u16,
+        label: label as u16,
+        size: (1 + texts.byte_of(label)) as u16,
+        value: 0,
+    };
+    put_row(s, 0, row);
+    bind_last(w, size, s, k, label, texts, 1)
 }
 
 // A basic value, at the k names.
 pub(crate) fn set<'a>(
-    list: &[u8],
+    program: Program<'a>,
     i: usize,
-    w: &mut [u8],
-    n: usize,
-    text: usize,
-    s: &mut [u8],
+    w: &mut Work,
+    size: Size,
+    s: &mut Work,
     k: usize,
-    t: &'a [u8],
-    u: &'a [u8],
-) -> Ran
-    requires { (i < 1024) × (n ≤ 1024) × (text ≤ 16384) × (length list.now ≤ 20480) × (1 ≤ k) × (k ≤ 64) × (65536 ≤ length w.old) × (65536 ≤ length s.old) }
-    ensures { (RanKept k result) × (drop 32768 s.new ≡ drop 32768 s.old) × (Sets list.now i t.now u.now n text k s.old w.old w.new result) }
+) -> Result<Size, Reason>
+    requires { (i < 1024) × (1 ≤ k) × (k ≤ 64) }
+    ensures { (RanKept k result) × (drop 32768 s.new ≡ drop 32768 s.old)
+        × (Sets program.entry.steps.bytes.now i program.entry.texts.list.now program.entry.texts.table.now size.rows
+        size.text k s.old w.old w.new result) }
 {
     let label = last_label(s, k);
-    let rows = set_rows(list, i, t, s, label, k);
-    bind_last(w, n, text, s, k, label, t, u, rows)
+    let rows = set_rows(program.steps, i, program.texts.list, s, label, k);
+    bind_last(w, size, s, k, label, program.texts, rows)
 }
 
 fn resolve_at<'a>(
-    w: &[u8],
-    n: usize,
-    s: &[u8],
+    w: &Work,
+    size: Size,
+    s: &Work,
     j: usize,
     m: usize,
-    t: &'a [u8],
-    u: &'a [u8],
-) -> Found
-    requires { (n ≤ 1024) × (16384 ≤ length w.now) × (1 ≤ m) × (m ≤ 32) × (j ≤ 32) × (65536 ≤ length s.now) }
-    ensures { (FoundIn n result) × (ResolvesIn (view t.now u.now w.now n) j (scope_in t.now u.now s.now j) (names t.now u.now (drop 33024 s.now) m) result) }
+    texts: Texts<'a>,
+) -> Option<usize>
+    requires { (1 ≤ m) × (m ≤ 32) × (j ≤ 32) }
+    ensures { (FoundIn size.rows result)
+        × (ResolvesIn (view texts.entry.list.now texts.entry.table.now w.now size.rows) j (scope_in
+        texts.entry.list.now texts.entry.table.now s.now j) (names texts.entry.list.now texts.entry.table.now (drop
+        33024 s.now) m) result) }
 {
-    resolve(w, n, &s[PATH..], j, &s[REFERENCE..], m, t, u)
+    let store = Known {
+        rows: Rows {
+            bytes: w,
+            count: size.rows,
+        },
+    };
+    let scope = Path {
+        places: &s[PATH..],
+        count: j,
+    };
+    let reference = Path {
+        places: &s[REFERENCE..],
+        count: m,
+    };
+    resolve(store, scope, reference, texts)
 }
 
-// The value that the reference finds, as it is now, bound at the k names; the first j are the scope.
+// The value that the reference finds, as it is now, bound at the own names.
 pub(crate) fn link<'a>(
-    list: &[u8],
+    program: Program<'a>,
     i: usize,
-    w: &mut [u8],
-    n: usize,
-    text: usize,
-    s: &mut [u8],
-    j: usize,
-    k: usize,
-    t: &'a [u8],
-    u: &'a [u8],
-) -> Ran
-    requires { (i < 1024) × (n ≤ 1024) × (text ≤ 16384) × (j ≤ 32) × (1 ≤ k) × (k ≤ 64) × (65536 ≤ length w.old) × (65536 ≤ length s.old) }
-    ensures { (RanKept k result) × (ScopeKept s.old s.new) × (Links list.now i t.now u.now n text j k s.old w.old w.new result) }
+    w: &mut Work,
+    size: Size,
+    s: &mut Work,
+    names: Names,
+) -> Result<Size, Reason>
+    requires { i < 1024 }
+    ensures { (RanKept names.own result) × (ScopeKept s.old s.new)
+        × (Links program.entry.steps.bytes.now i program.entry.texts.list.now program.entry.texts.table.now size.rows
+        size.text names.scope names.own s.old w.old w.new result) }
 {
-    let label = last_label(s, k);
-    let m = put_names(t, (value_at(list, i) % 65536) as usize, s, REFERENCE);
-    if m < 1 {
-        return Ran::Refused(11);
-    }
-    let found = resolve_at(w, n, s, j, m, t, u);
-    let Found::At(at) = found else {
-        return Ran::Refused(11);
+    let label = last_label(s, names.own);
+    let reference = (record_at(program.steps, i).value % 65536) as usize;
+    let Some(count) = put_names(program.texts.list, reference, s, REFERENCE) else {
+        return Err(Reason::LinkFindsNothing);
     };
-    let rows = value(w, n, at, s, label, k, t, u);
-    bind_last(w, n, text, s, k, label, t, u, rows)
+    let Some(at) = resolve_at(w, size, s, names.scope, count, program.texts) else {
+        return Err(Reason::LinkFindsNothing);
+    };
+    let rows = value(w, size, at, s, label, names.own, program.texts);
+    bind_last(w, size, s, names.own, label, program.texts, rows)
 }
 
 fn copy_at<'a>(
-    w: &mut [u8],
-    n: usize,
-    text: usize,
-    s: &[u8],
+    w: &mut Work,
+    size: Size,
+    s: &Work,
     k: usize,
-    t: &'a [u8],
-    u: &'a [u8],
+    texts: Texts<'a>,
     m: usize,
-) -> Ran
-    requires { (n ≤ 1024) × (text ≤ 16384) × (k ≤ 32) × (m ≤ 1024) × (65536 ≤ length w.old) × (65536 ≤ length s.now) }
-    ensures { (RanKept 0 result) × (Copies t.now u.now n (scope_in t.now u.now s.now k) m text w.old s.now w.new result) }
+) -> Result<Size, Reason>
+    requires { (k ≤ 32) × (m ≤ 1024) }
+    ensures { (RanKept 0 result)
+        × (Copies texts.entry.list.now texts.entry.table.now size.rows (scope_in texts.entry.list.now
+        texts.entry.table.now s.now k) m size.text w.old s.now w.new result) }
 {
-    copy_in(w, n, text, &s[PATH..], k, t, u, s, m)
+    let path = Path {
+        places: &s[PATH..],
+        count: k,
+    };
+    let new = Known {
+        rows: Rows { bytes: s, count: m },
+    };
+    copy_in(w, size, path, texts, new)
 }
 
-// The attributes of the component that the reference finds, put into the one at the k names; the first j are the statement's scope.
+// The attributes of the component that the reference finds, put into the one at the own names.
 pub(crate) fn take<'a>(
-    list: &[u8],
+    program: Program<'a>,
     i: usize,
-    w: &mut [u8],
-    n: usize,
-    text: usize,
-    s: &mut [u8],
-    j: usize,
-    k: usize,
-    t: &'a [u8],
-    u: &'a [u8],
-) -> Ran
-    requires { (i < 1024) × (n ≤ 1024) × (text ≤ 16384) × (j ≤ 32) × (1 ≤ k) × (k ≤ 32) × (65536 ≤ length w.old) × (65536 ≤ length s.old) }
-    ensures { (RanKept 0 result) × (ScopeKept s.old s.new) × (Takes list.now i t.now u.now n text j k s.old w.old w.new result) }
+    w: &mut Work,
+    size: Size,
+    s: &mut Work,
+    names: Names,
+) -> Result<Size, Reason>
+    requires { (i < 1024) × (names.own ≤ 32) }
+    ensures { (RanKept 0 result) × (ScopeKept s.old s.new)
+        × (Takes program.entry.steps.bytes.now i program.entry.texts.list.now program.entry.texts.table.now size.rows
+        size.text names.scope names.own s.old w.old w.new result) }
 {
-    let m = put_names(t, path_at(list, i), s, REFERENCE);
-    if m < 1 {
-        return Ran::Refused(12);
-    }
-    let source = resolve_at(w, n, s, j, m, t, u);
-    let Found::At(at) = source else {
-        return Ran::Refused(12);
+    let reference = record_at(program.steps, i).path;
+    let Some(count) = put_names(program.texts.list, reference, s, REFERENCE) else {
+        return Err(Reason::PrototypeFindsNothing);
     };
-    if kind_at(w, at) != 0 {
-        return Ran::Refused(13);
+    let Some(source) = resolve_at(w, size, s, names.scope, count, program.texts) else {
+        return Err(Reason::PrototypeFindsNothing);
+    };
+    if kind_at(w, source) != Kind::Component.number() {
+        return Err(Reason::PrototypeIsNoComponent);
     }
-    let rows = attributes(w, n, at, s, k + 1);
-    copy_at(w, n, text, s, k, t, u, rows)
+    let rows = attributes(w, size, source, s, names.own + 1);
+    copy_at(w, size, s, names.own, program.texts, rows)
 }

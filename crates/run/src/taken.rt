@@ -2,59 +2,59 @@
 ghost use Rattle.std.specs.Prelude.{◌≡◌, ◌-◌, ◌*◌, ◌%◌, ◌≤◌, ◌<◌, length, drop};
 ghost use Rattle.run.specs.Takes.{AttributesTaken, ValueTaken};
 
+use crate::size::{Size, Work};
 use moves::lift;
-use rows::row::{depth_at, kind_at, label_at, put_row, size_at, value_at};
-use rows::search::end_of;
-use rows::text::byte_of;
+use rows::row::{Row, put_row, row_at};
+use rows::search::Rows;
+use rows::text::Texts;
 
 // The attributes of the component at row j, from depth d on; how many rows they are.
-pub(crate) fn attributes(w: &[u8], n: usize, j: usize, s: &mut [u8], d: usize) -> usize
-    requires { (n ≤ 1024) × (n * 16 ≤ length w.now) × (j < n) × (1 ≤ d) × (d ≤ 100) × (32768 ≤ length s.old) }
-    ensures { (result ≤ 1024) × (drop 32768 s.new ≡ drop 32768 s.old) × (AttributesTaken w.now n j d s.new result) }
+pub(crate) fn attributes(w: &Work, size: Size, j: usize, s: &mut Work, d: usize) -> usize
+    requires { (j < size.rows) × (1 ≤ d) × (d ≤ 100) }
+    ensures { (result ≤ 1024) × (drop 32768 s.new ≡ drop 32768 s.old)
+        × (AttributesTaken w.now size.rows j d s.new result) }
 {
-    let own = depth_at(w, j) as usize;
-    let e = end_of(w, n, j + 1, own + 1);
+    let own = usize::from(row_at(w, j).depth);
+    let store = Rows {
+        bytes: w,
+        count: size.rows,
+    };
+    let e = store.end_of(j + 1, own + 1);
     lift(w, j + 1, e, s, 0, own + 1, d);
     e - (j + 1)
 }
 
 // The value at row j, under the name at `label` and at depth d; how many rows it has.
 pub(crate) fn value<'a>(
-    w: &[u8],
-    n: usize,
+    w: &Work,
+    size: Size,
     j: usize,
-    s: &mut [u8],
+    s: &mut Work,
     label: usize,
     d: usize,
-    t: &'a [u8],
-    u: &'a [u8],
+    texts: Texts<'a>,
 ) -> usize
-    requires { (n ≤ 1024) × (n * 16 ≤ length w.now) × (j < n) × (d ≤ 100) × (label < 32768) × (32768 ≤ length s.old) }
-    ensures { (result ≤ 1024) × (drop 32768 s.new ≡ drop 32768 s.old) × (ValueTaken t.now u.now w.now n j label d s.new result) }
+    requires { (j < size.rows) × (d ≤ 100) × (label < 32768) }
+    ensures { (result ≤ 1024) × (drop 32768 s.new ≡ drop 32768 s.old)
+        × (ValueTaken texts.entry.list.now texts.entry.table.now w.now size.rows j label d s.new result) }
 {
-    let own = depth_at(w, j) as usize;
-    let e = end_of(w, n, j + 1, own + 1);
-    let size = size_at(w, j) as usize + byte_of(t, u, label);
-    let old = byte_of(t, u, label_at(w, j) as usize);
-    put_row(
-        s,
-        0,
-        kind_at(w, j),
-        d as u16,
-        label as u16,
-        renamed(size, old),
-        value_at(w, j),
-    );
+    let row = row_at(w, j);
+    let own = usize::from(row.depth);
+    let store = Rows {
+        bytes: w,
+        count: size.rows,
+    };
+    let e = store.end_of(j + 1, own + 1);
+    let bytes = usize::from(row.size) + texts.byte_of(label);
+    let old = texts.byte_of(usize::from(row.label));
+    let renamed = Row {
+        kind: row.kind,
+        depth: d as u16,
+        label: label as u16,
+        size: (bytes.saturating_sub(old) % 65536) as u16,
+        value: row.value,
+    };
+    put_row(s, 0, renamed);
     lift(w, j + 1, e, s, 1, own + 1, d + 1);
     e - j
-}
-
-// The text bytes with another name.
-fn renamed(size: usize, old: usize) -> u16
-    ensures { result ≡ (size - old) % 65536 }
-{
-    if size < old {
-        return 0;
-    }
-    ((size - old) % 65536) as u16
 }

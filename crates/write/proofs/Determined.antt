@@ -5,8 +5,8 @@ use Rattle.write.proofs.whole.write.Reads as Write
 
 pub record Determined : Type 0 where
   pub write : Determines Write.Post
-      (λ _ (w, (n, (lo, (hi, (up, (t, (u, (out, _)))))))). w.now & n & lo & hi & up & t.now & u.now & out.now)
-      λ _ r (_, (_, (_, (_, (_, (_, (_, (out, _)))))))). r & out.now
+      (λ _ (rows, (lo, (hi, (up, (t, (out, _)))))). rows.bytes.now & rows.count & lo & hi & up & t.list.now & t.table.now & out.now)
+      λ _ r (_, (_, (_, (_, (_, (out, _)))))). r & out.now
 
 pub determined : Determined
 determined =

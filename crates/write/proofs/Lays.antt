@@ -1,10 +1,10 @@
 -- Records and text written one by one are the table written whole. Assumes nothing.
-use Prim.Native.Nat.{ℕ, zero, suc, ◌+◌, ◌*◌, ◌-◌, ◌≤◌, ◌<◌}
+use Prim.Native.Nat.{ℕ, zero, suc, ◌+◌, ◌*◌, ◌-◌, ◌≤◌, ◌<◌, min}
 use native.Mathlib.Omega.{arith}
 use native.Mathlib.Numerals.{add-one}
 use mathlib.Core.Path.{◌≡◌, refl, sym, ◌∙◌, ap}
 use mathlib.Core.List.{List, [], ◌∷◌, ◌++◌, append_assoc}
-use mathlib.Core.Logic.{◌⊎◌, ⊎_elim}
+use mathlib.Core.Logic.{⊎_elim}
 use lib.ListN.{length, take, drop, length-append, length-drop}
 use lib.Seq.{take_all, take-nil}
 use borrow.Author.Tests.{le-leb, lt-leb}
@@ -13,12 +13,19 @@ use Rattle.paper.specs.Layout.{Row, little, row_bytes, row_text, records, texts,
 use Rattle.theorems.proofs.Decoded.Parts.{length_little}
 use Rattle.theorems.proofs.Decoded.Header.{Lasts, records_length}
 use Rattle.memory.specs.Memory.{stored}
-use Rattle.memory.proofs.Laws.{length_stored, then_stored, stored_none, stored_apart, stored_out}
+use Rattle.memory.proofs.Laws.{fit, length_stored, then_stored, stored_none, stored_apart, stored_out}
 use Rattle.rows.specs.View.{seen, groups, view, kept, rows_in}
 use Rattle.rows.proofs.Views.{length_view, view_cons, view_end}
 use Rattle.rows.specs.Change.{row_here}
+use Rattle.rows.specs.Row.{row_of, row_seen}
+use Rattle.rows.specs.declared.row.Row as Numbers
+use Rattle.write.proofs.Records.{seen_is}
 use Rattle.write.specs.Tabled.{spanned_row, spanned, tabled, chosen, fitted}
-use Rattle.write.specs.Lay.{lay_row, lay, head, Stand, Room}
+use Rattle.forms.specs.declared.form.Form.TheVariants.{Table}
+use Rattle.forms.specs.Header.{header_of}
+use Rattle.forms.proofs.Puts.{table_header}
+use Rattle.write.specs.Lay.{lay_row, lay}
+use Rattle.write.specs.declared.chosen.Chosen.{Chosen}
 
 -- ---- rows as a table has them
 
@@ -64,34 +71,19 @@ lay_all b o a t (x ∷ xs) h l m =
 
 -- ---- the header
 
-next : (w u v : List ℕ) (p : ℕ) (a : List ℕ) (x : ℕ) → u ≡ stored w 0 a → v ≡ stored u p (little 4 x) → p ≡ length a → p + 4 ≤ length w → v ≡ stored w 0 (a ++ little 4 x)
-next w u v p a x e f q h = f ∙ ap (λ s. stored s p (little 4 x)) e ∙ then_stored w 0 p a (little 4 x) (omega arith) (rw (length_little 4 x) h)
-
-pub head_put : (o o₁ o₂ o₃ o₄ o₅ o₆ : List ℕ) (n m : ℕ) → 24 ≤ length o → o₁ ≡ stored o 0 (little 4 2) → o₂ ≡ stored o₁ 4 (little 4 (24 + 16 * n + m)) → o₃ ≡ stored o₂ 8 (little 4 n) → o₄ ≡ stored o₃ 12 (little 4 24)
-    → o₅ ≡ stored o₄ 16 (little 4 m) → o₆ ≡ stored o₅ 20 (little 4 (24 + 16 * n)) → o₆ ≡ stored o 0 (head n m)
-unfolding head
-head_put o o₁ o₂ o₃ o₄ o₅ o₆ n m h e₁ e₂ e₃ e₄ e₅ e₆ =
-    let a = little 4 2 in
-    let b = little 4 (24 + 16 * n + m) in
-    let c = little 4 n in
-    let d = little 4 24 in
-    let f₂ = next o o₁ o₂ 4 a (24 + 16 * n + m) e₁ e₂ (simp length_little) (omega arith) in
-    let f₃ = next o o₂ o₃ 8 (a ++ b) n f₂ e₃ (simp (length-append, length_little)) (omega arith) in
-    let f₄ = next o o₃ o₄ 12 ((a ++ b) ++ c) 24 f₃ e₄ (simp (length-append, length_little)) (omega arith) in
-    let f₅ = next o o₄ o₅ 16 (((a ++ b) ++ c) ++ d) m f₄ e₅ (simp (length-append, length_little)) (omega arith) in
-    let f₆ = next o o₅ o₆ 20 ((((a ++ b) ++ c) ++ d) ++ little 4 m) (24 + 16 * n) f₅ e₆ (simp (length-append, length_little)) (omega arith) in
-    simp append_assoc at f₆
+-- of a table
+abbrev pub head : ℕ → ℕ → List ℕ
+head = header_of Table
 
 head_length : (n m : ℕ) → length (head n m) ≡ 24
-unfolding head
-head_length n m = simp (length-append, length_little) (omega arith)
+head_length n m = rw table_header (simp (length-append, length_little) (omega arith))
 
 -- header, records and text, one behind the other
 whole : (xs : List Row) → Lasts 0 xs → laid_out 2 xs ≡ (head (length xs) (length (texts xs)) ++ records 0 xs) ++ texts xs
-unfolding laid_out head
+unfolding laid_out
 whole xs h =
     let l : length (records 0 xs) ≡ 16 * length xs = records_length 0 xs 0 h in
-    rw l (simp append_assoc)
+    rw (table_header, l) (simp append_assoc)
 
 laid_length : (xs : List Row) → Lasts 0 xs → length (laid_out 2 xs) ≡ 24 + 16 * length xs + length (texts xs)
 laid_length xs h =
@@ -118,76 +110,77 @@ laid o xs h l =
 
 -- ---- row by row
 
-module _ (t u w : List ℕ) (n i : ℕ) (S : Stand w n) where
-  pub row_next : i < n → drop i (view t u w n) ≡ row_here t u w i ∷ drop (suc i) (view t u w n)
-  row_next h = view_cons t u w n i h S.few S.within
+module _ (t u : List ℕ) (s : Chosen) (i : ℕ) where
+  abbrev all : List Row
+  all = view t u s.bytes.now s.last
 
-  pub size_more : (sum r m : ℕ) → i < n → r ≡ length (row_text (row_here t u w i)) → sum + length (texts (drop i (view t u w n))) ≡ m → sum + r + length (texts (drop (i + 1) (view t u w n))) ≡ m
+  pub row_next : i < s.last → drop i all ≡ row_here t u s.bytes.now i ∷ drop (suc i) all
+  row_next h = view_cons t u s.bytes.now s.last i h s.few s.within
+
+  pub size_more : (sum k m : ℕ) (r : Numbers.Row) → r ≡ row_of s.bytes.now i → i < s.last → k ≡ length (row_text (row_seen t u r)) → sum + length (texts (drop i all)) ≡ m → sum + k + length (texts (drop (i + 1) all)) ≡ m
   unfolding texts
-  size_more sum r m h e f =
-      let g : length (texts (drop i (view t u w n))) ≡ length (row_text (row_here t u w i)) + length (texts (drop (i + 1) (view t u w n))) =
-      ap (λ xs. length (texts xs)) (row_next h) ∙ length-append (row_text (row_here t u w i)) (texts (drop (suc i) (view t u w n))) ∙ ap (λ j. length (row_text (row_here t u w i)) + length (texts (drop j (view t u w n)))) (sym (add-one i)) in
+  size_more sum k m r is h e₀ f =
+      let e = rw (seen_is t u s.bytes.now i r is) at e₀ in
+      let g : length (texts (drop i all)) ≡ length (row_text (row_here t u s.bytes.now i)) + length (texts (drop (i + 1) all)) =
+      ap (λ xs. length (texts xs)) (row_next h) ∙ length-append (row_text (row_here t u s.bytes.now i)) (texts (drop (suc i) all)) ∙ ap (λ j. length (row_text (row_here t u s.bytes.now i)) + length (texts (drop j all))) (sym (add-one i)) in
       omega arith
 
-  pub size_end : (sum m : ℕ) → n ≤ i → sum + length (texts (drop i (view t u w n))) ≡ m → sum ≡ m
+  pub size_end : (sum m : ℕ) → s.last ≤ i → sum + length (texts (drop i all)) ≡ m → sum ≡ m
   unfolding texts
   size_end sum m h f =
-      let g : length (texts (drop i (view t u w n))) ≡ 0 = ap (λ xs. length (texts xs)) (view_end t u w n i h) in
+      let g : length (texts (drop i all)) ≡ 0 = ap (λ xs. length (texts xs)) (view_end t u s.bytes.now s.last i h) in
       omega arith
 
-pub record RowsLoop (t u w : List ℕ) (lo hi up base : ℕ) (o₀ o : List ℕ) (i at pos : ℕ) : Type 0 where
-  pub on : lo ≤ i
-  pub within : i ≤ hi
-  pub place : at ≡ 24 + 16 * (i - lo)
+pub record RowsLoop (t u : List ℕ) (s : Chosen) (up base : ℕ) (o₀ o : List ℕ) (i at pos : ℕ) : Type 0 where
+  pub on : s.first ≤ i
+  pub place : at ≡ 24 + 16 * (i - s.first)
   pub past : base ≤ pos
   pub long : length o ≡ length o₀
-  pub room : pos + length (texts (drop i (view t u w hi))) ≤ length o₀
-  pub is : lay base o at (pos - base) (spanned up (drop i (view t u w hi))) ≡ lay base o₀ 24 0 (spanned up (drop lo (view t u w hi)))
+  pub room : pos + length (texts (drop i (view t u s.bytes.now s.last))) ≤ length o₀
+  pub is : lay base o at (pos - base) (spanned up (drop i (view t u s.bytes.now s.last))) ≡ lay base o₀ 24 0 (spanned up (drop s.first (view t u s.bytes.now s.last)))
 
-module _ (t u w : List ℕ) (lo hi up : ℕ) (o₀ : List ℕ) (R : Room t u w lo hi o₀) where
+module _ (t u : List ℕ) (s : Chosen) (up : ℕ) (o₀ : List ℕ) (room : 24 + 16 * (s.last - s.first) + length (texts (drop s.first (view t u s.bytes.now s.last))) ≤ length o₀) where
   abbrev base : ℕ
-  base = 24 + 16 * (hi - lo)
+  base = 24 + 16 * (s.last - s.first)
 
   abbrev rest : ℕ → List Row
-  rest i = drop i (view t u w hi)
+  rest i = drop i (view t u s.bytes.now s.last)
 
-  pub rows_begin : RowsLoop t u w lo hi up (24 + 16 * (hi - lo)) o₀ o₀ lo 24 (24 + 16 * (hi - lo))
+  pub rows_begin : RowsLoop t u s up (24 + 16 * (s.last - s.first)) o₀ o₀ s.first 24 (24 + 16 * (s.last - s.first))
   rows_begin =
       let z : base - base ≡ 0 = omega arith in
-      record { on = omega arith; within = R.on; place = omega arith; past = omega arith; long = refl; room = R.room; is = ap (λ q. lay base o₀ 24 q (spanned up (rest lo))) z }
+      record { on = omega arith; place = omega arith; past = omega arith; long = refl; room = room; is = ap (λ q. lay base o₀ 24 q (spanned up (rest s.first))) z }
 
-  module _ (o : List ℕ) (i at pos : ℕ) (L : RowsLoop t u w lo hi up (24 + 16 * (hi - lo)) o₀ o i at pos) where
-    module _ (h : i < hi) where
-      size_left : length (texts (rest i)) ≡ length (row_text (row_here t u w i)) + length (texts (rest (suc i)))
+  module _ (o : List ℕ) (i at pos : ℕ) (L : RowsLoop t u s up (24 + 16 * (s.last - s.first)) o₀ o i at pos) where
+    module _ (h : i < s.last) where
+      size_left : length (texts (rest i)) ≡ length (row_text (row_here t u s.bytes.now i)) + length (texts (rest (suc i)))
       unfolding texts
-      size_left = ap (λ xs. length (texts xs)) (row_next t u w hi i R.stand h) ∙ length-append (row_text (row_here t u w i)) (texts (rest (suc i)))
+      size_left = ap (λ xs. length (texts xs)) (row_next t u s i h) ∙ length-append (row_text (row_here t u s.bytes.now i)) (texts (rest (suc i)))
 
-      pub rows_record : (Stand w hi) × (i < hi) × (at + 16 ≤ length o) × (pos - (24 + 16 * (hi - lo)) ≤ length o)
-      rows_record = (R.stand, h, omega (arith, L.place, L.on, L.past, L.room, L.long), omega (arith, L.room, L.long))
+      pub rows_texts : (m : ℕ) (r : Numbers.Row) → r ≡ row_of s.bytes.now i → m ≡ length o → pos + length (row_text (row_seen t u r)) ≤ m
+      rows_texts m r is e = rw (seen_is t u s.bytes.now i r is) (omega (arith, L.room, L.long, size_left))
 
-      pub rows_texts : (m : ℕ) → m ≡ length o → pos + length (row_text (row_here t u w i)) ≤ m
-      rows_texts m e = omega (arith, L.room, L.long, size_left)
-
-      pub rows_more : (o₁ o₂ : List ℕ) (pos₁ : ℕ) → o₁ ≡ stored o at (row_bytes (pos - (24 + 16 * (hi - lo))) (spanned_row up (row_here t u w i) (drop (suc i) (view t u w hi))))
-          → o₂ ≡ stored o₁ pos (row_text (row_here t u w i)) → pos₁ ≡ pos + length (row_text (row_here t u w i)) → RowsLoop t u w lo hi up (24 + 16 * (hi - lo)) o₀ o₂ (i + 1) (at + 16) pos₁
+      pub rows_more : (o₁ o₂ : List ℕ) (pos₁ : ℕ) (r : Numbers.Row) → r ≡ row_of s.bytes.now i → o₁ ≡ stored o at (row_bytes (pos - (24 + 16 * (s.last - s.first))) (spanned_row up (row_here t u s.bytes.now i) (drop (suc i) (view t u s.bytes.now s.last))))
+          → o₂ ≡ stored o₁ pos (row_text (row_seen t u r)) → pos₁ ≡ pos + length (row_text (row_seen t u r)) → RowsLoop t u s up (24 + 16 * (s.last - s.first)) o₀ o₂ (i + 1) (at + 16) pos₁
       unfolding lay lay_row spanned spanned_row row_text
-      rows_more o₁ o₂ pos₁ e f g =
-          let x = row_here t u w i in
+      rows_more o₁ o₂ pos₁ r is e f₀ g₀ =
+          let f = rw (seen_is t u s.bytes.now i r is) at f₀ in
+          let g = rw (seen_is t u s.bytes.now i r is) at g₀ in
+          let x = row_here t u s.bytes.now i in
           let T = row_text x in
           let sx = spanned_row up x (rest (suc i)) in
           let l₁ : length o₁ ≡ length o = ap length e ∙ length_stored o at (row_bytes (pos - base) sx) in
           let l₂ : length o₂ ≡ length o₁ = ap length f ∙ length_stored o₁ pos T in
           let b : base + (pos - base) ≡ pos = omega (arith, L.past) in
           let q : pos - base + length T ≡ pos₁ - base = omega (arith, L.past) in
-          let s : lay_row base o at (pos - base) sx ≡ o₂ = ap (λ p. stored (stored o at (row_bytes (pos - base) sx)) p T) b ∙ ap (λ y. stored y pos T) (sym e) ∙ sym f in
+          let q₁ : lay_row base o at (pos - base) sx ≡ o₂ = ap (λ p. stored (stored o at (row_bytes (pos - base) sx)) p T) b ∙ ap (λ y. stored y pos T) (sym e) ∙ sym f in
           let k : lay base o at (pos - base) (spanned up (rest i)) ≡ lay base o₂ (at + 16) (pos₁ - base) (spanned up (rest (suc i))) =
-          ap (λ xs. lay base o at (pos - base) (spanned up xs)) (row_next t u w hi i R.stand h)
-          ∙ ap (λ y. lay base y (at + 16) (pos - base + length T) (spanned up (rest (suc i)))) s
+          ap (λ xs. lay base o at (pos - base) (spanned up xs)) (row_next t u s i h)
+          ∙ ap (λ y. lay base y (at + 16) (pos - base + length T) (spanned up (rest (suc i)))) q₁
           ∙ ap (λ p. lay base o₂ (at + 16) p (spanned up (rest (suc i)))) q in
           let j : rest (i + 1) ≡ rest (suc i) = ap rest (add-one i) in
           record {
             on = omega (arith, L.on);
-            within = omega arith;
             place = omega (arith, L.place, L.on);
             past = omega (arith, L.past);
             long = l₂ ∙ l₁ ∙ L.long;
@@ -195,9 +188,9 @@ module _ (t u w : List ℕ) (lo hi up : ℕ) (o₀ : List ℕ) (R : Room t u w l
             is = rw j (sym k ∙ L.is);
           }
 
-    pub rows_end : hi ≤ i → o ≡ lay (24 + 16 * (hi - lo)) o₀ 24 0 (spanned up (drop lo (view t u w hi)))
+    pub rows_end : s.last ≤ i → o ≡ lay (24 + 16 * (s.last - s.first)) o₀ 24 0 (spanned up (drop s.first (view t u s.bytes.now s.last)))
     unfolding lay spanned
-    rows_end h = sym (ap (λ xs. lay base o at (pos - base) (spanned up xs)) (view_end t u w hi i h)) ∙ L.is
+    rows_end h = sym (ap (λ xs. lay base o at (pos - base) (spanned up xs)) (view_end t u s.bytes.now s.last i h)) ∙ L.is
 
 -- ---- the rows that are chosen
 
@@ -213,24 +206,24 @@ groups_take k f zero n w h = refl
 groups_take k f (suc m) zero w h = absurd (omega arith)
 groups_take k f (suc m) (suc n) w h = ap (λ r. f (take k w) ∷ r) (groups_take k f m n (drop k w) (omega arith))
 
-module _ (t u w : List ℕ) (n lo hi all last first : ℕ) (ea : all ≡ kept w n) (la : last ≤ all) (lh : last ≤ hi) (either : (last ≡ all) ⊎ (last ≡ hi)) (fl : first ≤ last) (or : (first ≡ lo) ⊎ (first ≡ last)) (fo : first ≤ lo) where
-  up_to : take hi (view t u w all) ≡ view t u w last
+module _ (t u w : List ℕ) (n lo hi last first : ℕ) (el : last ≡ min (kept w n) hi) (ef : first ≡ min lo last) where
+  abbrev there : ℕ
+  there = kept w n
+
+  up_to : take hi (view t u w there) ≡ view t u w last
   unfolding view
   up_to =
-      ⊎_elim (λ e. take_all hi (view t u w all) (omega (arith, length_view t u w all)) ∙ ap (view t u w) (sym e))
-      (λ e. groups_take 16 (seen t u) hi all w (omega arith) ∙ ap (view t u w) (sym e)) either
+      ⊎_elim (λ h. let q : there ≡ last = omega arith in take_all hi (view t u w there) (omega (arith, length_view t u w there)) ∙ ap (view t u w) q)
+      (λ h. let q : hi ≡ last = omega arith in groups_take 16 (seen t u) hi there w (omega arith) ∙ ap (view t u w) q) (fit there hi)
 
   from : drop lo (view t u w last) ≡ drop first (view t u w last)
   from =
-      ⊎_elim (λ e. ap (λ j. drop j (view t u w last)) (sym e))
-      (λ e. view_end t u w last lo (omega arith) ∙ sym (view_end t u w last first (omega arith))) or
+      ⊎_elim (λ h. let q : lo ≡ first = omega arith in ap (λ j. drop j (view t u w last)) q)
+      (λ h. view_end t u w last lo (omega arith) ∙ sym (view_end t u w last first (omega arith))) (fit lo last)
 
   pub chosen_is : chosen t u w n lo hi ≡ drop first (view t u w last)
   unfolding chosen rows_in
-  chosen_is =
-      ap (λ k. take (hi - lo) (drop lo (view t u w k))) (sym ea)
-      ∙ sym (drop_take lo hi (view t u w all))
-      ∙ ap (drop lo) up_to ∙ from
+  chosen_is = sym (drop_take lo hi (view t u w there)) ∙ ap (drop lo) up_to ∙ from
 
 -- ---- the whole table
 
@@ -261,19 +254,19 @@ module _ (up : ℕ) (ys : List Row) (o : List ℕ) where
 
 -- ---- the rows that are chosen, as a table
 
-module _ (t u w : List ℕ) (n lo hi up all last first size : ℕ) (o : List ℕ) (ea : all ≡ kept w n) (la : last ≤ all) (lh : last ≤ hi) (either : (last ≡ all) ⊎ (last ≡ hi)) (fo : first ≤ lo) (fl : first ≤ last) (or : (first ≡ lo) ⊎ (first ≡ last)) (es : size ≡ length (texts (drop first (view t u w last)))) where
+module _ (t u : List ℕ) (s : Chosen) (w : List ℕ) (n lo hi up size : ℕ) (o : List ℕ) (eb : s.bytes.now ≡ w) (el : s.last ≡ min (kept w n) hi) (ef : s.first ≡ min lo s.last) (es : size ≡ length (texts (drop s.first (view t u s.bytes.now s.last)))) where
   abbrev ys : List Row
-  ys = drop first (view t u w last)
+  ys = drop s.first (view t u s.bytes.now s.last)
 
-  many : length ys ≡ last - first
-  many = length-drop first (view t u w last) ∙ ap (λ k. k - first) (length_view t u w last)
+  many : length ys ≡ s.last - s.first
+  many = length-drop s.first (view t u s.bytes.now s.last) ∙ ap (λ k. k - s.first) (length_view t u s.bytes.now s.last)
 
   these : chosen t u w n lo hi ≡ ys
-  these = chosen_is t u w n lo hi all last first ea la lh either fl or fo
+  these = chosen_is t u w n lo hi s.last s.first el ef ∙ ap (λ x. drop s.first (view t u x s.last)) (sym eb)
 
-  pub write_short : length o < 24 + 16 * (last - first) + size → (o ≡ stored o 0 (tabled up (chosen t u w n lo hi))) × (0 ≡ fitted (tabled up (chosen t u w n lo hi)) o)
+  pub write_short : length o < 24 + 16 * (s.last - s.first) + size → (o ≡ stored o 0 (tabled up (chosen t u w n lo hi))) × (0 ≡ fitted (tabled up (chosen t u w n lo hi)) o)
   write_short h = rw these (table_short up ys o (rw (many, ← es) h))
 
-  pub write_put : (o₁ o₂ : List ℕ) → 24 + 16 * (last - first) + size ≤ length o → o₁ ≡ stored o 0 (head (last - first) size) → o₂ ≡ lay (24 + 16 * (last - first)) o₁ 24 0 (spanned up (drop first (view t u w last)))
-      → (o₂ ≡ stored o 0 (tabled up (chosen t u w n lo hi))) × (24 + 16 * (last - first) + size ≡ fitted (tabled up (chosen t u w n lo hi)) o)
+  pub write_put : (o₁ o₂ : List ℕ) → 24 + 16 * (s.last - s.first) + size ≤ length o → o₁ ≡ stored o 0 (head (s.last - s.first) size) → o₂ ≡ lay (24 + 16 * (s.last - s.first)) o₁ 24 0 (spanned up (drop s.first (view t u s.bytes.now s.last)))
+      → (o₂ ≡ stored o 0 (tabled up (chosen t u w n lo hi))) × (24 + 16 * (s.last - s.first) + size ≡ fitted (tabled up (chosen t u w n lo hi)) o)
   write_put o₁ o₂ h e f = rw (these, ← many, es) (table_put up ys o o₁ o₂ (rw (many, ← es) h) (rw (many, ← es) e) (rw many f))

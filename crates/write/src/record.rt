@@ -1,81 +1,73 @@
 // One record of a table.
-ghost use Rattle.std.specs.Prelude.{◌≡◌, List, ℕ, suc, ◌+◌, ◌%◌, ◌≤◌, ◌<◌, length, drop};
+ghost use Rattle.std.specs.Prelude.{◌≡◌, List, ℕ, suc, ◌%◌, ◌^◌, ◌<◌, drop};
 ghost use Rattle.paper.specs.Layout.{figure};
 ghost use Rattle.paper.specs.Layout as Layout;
-ghost use Rattle.memory.specs.Memory.{stored};
-ghost use Rattle.rows.specs.View.{label_of, value_of, view};
+ghost use Rattle.rows.specs.View.{label_of, view};
 ghost use Rattle.rows.specs.Change.{row_bytes, row_here};
+ghost use Rattle.rows.specs.Row.{row_seen};
 ghost use Rattle.write.specs.Tabled.{spanned_row};
-ghost use Rattle.write.specs.Lay.{Stand};
 
-use crate::text::{label_text, less};
-use memory::{put16, put64};
-use rows::row::{depth_at, kind_at, label_at, value_at};
-use rows::search::end_of;
+use crate::chosen::Chosen;
+use crate::text::label_text;
+use rows::row::{Row, depth_at, row_at};
+use rows::search::Rows;
+use rows::text::{ELEMENT, Texts};
 
 // What stands in the record for a name whose text begins at pos; what no table has is cut off.
-fn label_figure(p: u16, pos: usize) -> u16
-    ensures { (t u : List ℕ) → result ≡ figure pos (label_of t u p) % 65536 }
+fn label_figure(label: u16, pos: usize) -> u16
+    ensures { (t u : List ℕ) → result ≡ figure pos (label_of t u label) % 65536 }
 {
-    if p == 65535 {
-        return p;
+    if usize::from(label) == ELEMENT {
+        label
+    } else {
+        (pos % 65536) as u16
     }
-    (pos % 65536) as u16
 }
 
 // And for a value, if it has a text.
-fn value_figure(kind: u16, v: u64, pos: usize) -> u64
-    ensures { (t u : List ℕ) (m : ℕ) → result ≡ figure pos (value_of t u kind v m) }
+fn value_figure(row: Row, pos: usize) -> u64
+    ensures { (t u : List ℕ) → result ≡ figure pos (row_seen t u row).value }
 {
-    if kind < 4 {
-        return v;
+    if row.has_text() {
+        pos as u64
+    } else {
+        row.value
     }
-    if 6 < kind {
-        return v;
+}
+
+impl Chosen<'_> {
+    // The span is counted from the depths that follow: rows keep none.
+    fn span_of(self, i: usize) -> u16
+        requires { i < self.last }
+        ensures { (t u : List ℕ) → result ≡ (spanned_row 0
+            (row_here t u self.entry.bytes.now i)
+            (drop (suc i) (view t u self.entry.bytes.now self.entry.last))).span }
+    {
+        let rows = Rows {
+            bytes: self.bytes,
+            count: self.last,
+        };
+        let depth = usize::from(depth_at(self.bytes, i));
+        (rows.end_of(i + 1, depth + 1) - i) as u16
     }
-    pos as u64
-}
 
-fn put_numbers(out: &mut [u8], at: usize, kind: u16, depth: u16, label: u16, span: u16, value: u64)
-    requires { at + 16 ≤ length out.old }
-    ensures { out.new ≡ stored out.old at (row_bytes kind depth label span value) }
-{
-    put16(out, at, kind);
-    put16(out, at + 2, depth);
-    put16(out, at + 4, label);
-    put16(out, at + 6, span);
-    put64(out, at + 8, value);
-}
-
-// The span is counted from the depths that follow: rows keep none.
-fn span_of(w: &[u8], i: usize, end: usize) -> u16
-    requires { (Stand w.now end) × (i < end) }
-    ensures { (t u : List ℕ) → result ≡ (spanned_row 0 (row_here t u w.now i) (drop (suc i) (view t u w.now end))).span }
-{
-    let depth = depth_at(w, i) as usize;
-    (end_of(w, end, i + 1, depth + 1) - i) as u16
-}
-
-// Row i of those up to end, `up` less deep, its text at pos of the text.
-pub(crate) fn put_record<'a>(
-    w: &[u8],
-    i: usize,
-    end: usize,
-    up: usize,
-    t: &'a [u8],
-    u: &'a [u8],
-    out: &mut [u8],
-    at: usize,
-    pos: usize,
-)
-    requires { (Stand w.now end) × (i < end) × (at + 16 ≤ length out.old) × (pos ≤ length out.old) }
-    ensures { out.new ≡ stored out.old at (Layout.row_bytes pos (spanned_row up (row_here t.now u.now w.now i) (drop (suc i) (view t.now u.now w.now end)))) }
-{
-    let kind = kind_at(w, i);
-    let depth = less(depth_at(w, i) as usize, up) as u16;
-    let label = label_figure(label_at(w, i), pos);
-    let span = span_of(w, i, end);
-    let name = label_text(w, i, t, u);
-    let value = value_figure(kind, value_at(w, i), pos + name.len());
-    put_numbers(out, at, kind, depth, label, span, value);
+    // Row i as a record, `up` less deep, its text at pos of the text.
+    pub(crate) fn record_of(self, i: usize, up: usize, texts: Texts<'_>, pos: usize) -> Row
+        requires { (i < self.last) × (pos < 2 ^ 63) }
+        ensures { row_bytes result.kind result.depth result.label result.size result.value
+            ≡ Layout.row_bytes pos (spanned_row up
+            (row_here texts.entry.list.now texts.entry.table.now self.entry.bytes.now i)
+            (drop (suc i)
+            (view texts.entry.list.now texts.entry.table.now self.entry.bytes.now self.entry.last))) }
+    {
+        let row = row_at(self.bytes, i);
+        let name = label_text(row, texts);
+        Row {
+            depth: usize::from(row.depth).saturating_sub(up) as u16,
+            label: label_figure(row.label, pos),
+            size: self.span_of(i),
+            value: value_figure(row, pos + name.len()),
+            ..row
+        }
+    }
 }

@@ -1,107 +1,76 @@
 // The whole table: header, records, text.
-ghost use Rattle.std.specs.Prelude.{◌≡◌, ◌⊎◌, ◌+◌, ◌*◌, ◌-◌, ◌≤◌, length, drop};
-ghost use Rattle.paper.specs.Layout.{texts};
+ghost use Rattle.std.specs.Prelude.{◌≡◌, ◌+◌, ◌*◌, ◌-◌, ◌≤◌, length, drop};
+ghost use Rattle.paper.specs.Layout as Layout;
 ghost use Rattle.memory.specs.Memory.{stored};
-ghost use Rattle.rows.specs.View.{view, kept};
+ghost use Rattle.rows.specs.View.{view};
 ghost use Rattle.write.specs.Tabled.{spanned, tabled, chosen, fitted};
-ghost use Rattle.write.specs.Lay.{lay, head, Stand, Room};
+ghost use Rattle.write.specs.Lay.{lay};
 
-use crate::record::put_record;
+use crate::chosen::Chosen;
 use crate::text::{put_texts, row_size};
-use memory::put32;
+use forms::{Form, HEADER, TABLE_RECORD as RECORD, put_header};
+use rows::row::row_at;
+use rows::search::Rows;
+use rows::text::Texts;
 
-const FORM: u32 = 2;
-
-const HEADER: usize = 24;
-
-const RECORD: usize = 16;
-
-fn lesser(a: usize, b: usize) -> usize
-    ensures { (result ≤ a) × (result ≤ b) × ((result ≡ a) ⊎ (result ≡ b)) }
-{
-    if a < b {
-        return a;
+impl Chosen<'_> {
+    // The text is measured first, so that nothing is written where it does not all fit.
+    fn text_size(self, texts: Texts<'_>) -> usize
+        ensures { (result ≡ length (Layout.texts
+            (drop self.entry.first
+            (view texts.entry.list.now texts.entry.table.now self.entry.bytes.now self.entry.last))))
+            × (result ≤ 269479936) }
+    {
+        let mut sum = 0;
+        for i in self.first..self.last {
+            sum += row_size(row_at(self.bytes, i), texts);
+        }
+        sum
     }
-    b
-}
 
-// How many rows there are.
-fn count(w: &[u8], n: usize) -> usize
-    ensures { (result ≡ kept w.now n) × (Stand w.now result) }
-{
-    if 4096 < n {
-        return 0;
-    }
-    if w.len() < n * RECORD {
-        return 0;
-    }
-    n
-}
-
-// The text is measured first, so that a refusal writes nothing.
-fn text_size<'a>(w: &[u8], lo: usize, hi: usize, t: &'a [u8], u: &'a [u8]) -> usize
-    requires { (Stand w.now hi) × (lo ≤ hi) }
-    ensures { (result ≡ length (texts (drop lo (view t.now u.now w.now hi)))) × (result ≤ 269479936) }
-{
-    let mut sum: usize = 0;
-    let mut i = lo;
-    while i < hi {
-        sum += row_size(w, i, t, u);
-        i += 1;
-    }
-    sum
-}
-
-fn put_head(out: &mut [u8], n: usize, size: usize)
-    requires { (n ≤ 4096) × (size ≤ 269479936) × (24 ≤ length out.old) }
-    ensures { out.new ≡ stored out.old 0 (head n size) }
-{
-    let base = HEADER + RECORD * n;
-    put32(out, 0, FORM);
-    put32(out, 4, (base + size) as u32);
-    put32(out, 8, n as u32);
-    put32(out, 12, HEADER as u32);
-    put32(out, 16, size as u32);
-    put32(out, 20, base as u32);
-}
-
-fn put_rows<'a>(w: &[u8], lo: usize, hi: usize, up: usize, t: &'a [u8], u: &'a [u8], out: &mut [u8])
-    requires { Room t.now u.now w.now lo hi out.old }
-    ensures { out.new ≡ lay (24 + 16 * (hi - lo)) out.old 24 0 (spanned up (drop lo (view t.now u.now w.now hi))) }
-{
-    let base = HEADER + RECORD * (hi - lo);
-    let mut i = lo;
-    let mut at = HEADER;
-    let mut pos = base;
-    while i < hi {
-        put_record(w, i, hi, up, t, u, out, at, pos - base);
-        pos = put_texts(w, i, t, u, out, pos);
-        at += RECORD;
-        i += 1;
+    fn put_rows(self, up: usize, texts: Texts<'_>, out: &mut [u8])
+        requires { 24 + 16 * (self.last - self.first)
+            + length (Layout.texts (drop self.first (view texts.list.now texts.table.now self.bytes.now self.last)))
+            ≤ length out.old }
+        ensures { out.new ≡ lay (24 + 16 * (self.entry.last - self.entry.first)) out.old 24 0
+            (spanned up (drop self.entry.first
+            (view texts.entry.list.now texts.entry.table.now self.entry.bytes.now self.entry.last))) }
+    {
+        let base = HEADER + RECORD * (self.last - self.first);
+        // Carried on beside pos: HEADER + RECORD * (i - self.first) in each turn is no plainer.
+        let mut at = HEADER;
+        let mut pos = base;
+        for i in self.first..self.last {
+            self.record_of(i, up, texts, pos - base).store(out, at);
+            pos = put_texts(row_at(self.bytes, i), texts, out, pos);
+            at += RECORD;
+        }
     }
 }
 
-// The rows from lo up to hi, of n, as a table's bytes at the front of out, `up` less deep.
-pub fn write<'a>(
-    w: &[u8],
-    n: usize,
+// The rows from lo up to hi as a table's bytes at the front of out, `up` less deep. The answer counts the bytes that
+// are written: all, or 0 where they do not all fit (no Option: the clause `fitted` of `write` says 0).
+pub fn write(
+    rows: Rows<'_>,
     lo: usize,
     hi: usize,
     up: usize,
-    t: &'a [u8],
-    u: &'a [u8],
+    texts: Texts<'_>,
     out: &mut [u8],
 ) -> usize
-    ensures { (out.new ≡ stored out.old 0 (tabled up (chosen t.now u.now w.now n lo hi))) × (result ≡ fitted (tabled up (chosen t.now u.now w.now n lo hi)) out.old) }
+    ensures { (out.new ≡ stored out.old 0 (tabled up
+        (chosen texts.entry.list.now texts.entry.table.now rows.entry.bytes.now rows.entry.count lo hi)))
+        × (result ≡ fitted (tabled up
+        (chosen texts.entry.list.now texts.entry.table.now rows.entry.bytes.now rows.entry.count lo hi)) out.old) }
 {
-    let last = lesser(count(w, n), hi);
-    let first = lesser(lo, last);
-    let size = text_size(w, first, last, t, u);
-    let total = HEADER + RECORD * (last - first) + size;
+    let chosen = Chosen::new(rows, lo, hi);
+    let n = chosen.last - chosen.first;
+    let size = chosen.text_size(texts);
+    let total = HEADER + RECORD * n + size;
     if out.len() < total {
         return 0;
     }
-    put_head(out, last - first, size);
-    put_rows(w, first, last, up, t, u, out);
+    put_header(Form::Table, out, n as u16, size as u32);
+    chosen.put_rows(up, texts, out);
     total
 }

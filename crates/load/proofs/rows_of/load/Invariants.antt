@@ -1,12 +1,7 @@
-use Prim.Native.Nat.{◌-◌, ◌≤◌}
 use mathlib.Core.Path.{◌≡◌}
-use lib.ListN.{length}
 use Rattle.memory.specs.Memory.{stored}
 use Rattle.load.specs.Load.{loaded}
 use Rattle.load.proofs.rows_of.load.Given as goal
 
 abbrev pub invariant-loop-i : goal.invariant-loop-i
-invariant-loop-i l = (l.i ≤ l.n) × (length l.w ≡ length l.initial.w) × (l.w ≡ stored l.initial.w 0 (loaded l.recs l.text 0 l.i))
-
-abbrev pub decreases-loop-i : goal.decreases-loop-i
-decreases-loop-i l = l.n - l.i
+invariant-loop-i l = l.w ≡ stored l.initial.w 0 (loaded l.recs l.text 0 l.i)

@@ -1,12 +1,10 @@
 -- `load::rows_of::placed_value` meets its contract. Assumes nothing.
-use Rattle.load.proofs.Sizes.{value_low, value_high, value_text}
+use mathlib.Core.Path.{◌∙◌}
+use Rattle.load.proofs.Sizes.{value_moved, value_stays}
 use Rattle.load.proofs.rows_of.placed_value.Goals as goal
 
-pub returns-then-kind-lt4 : goal.returns-then-kind-lt4
-returns-then-kind-lt4 c = value_low c.args.kind c.args.v c.if-kind-lt4.true
+pub returns-then-has_text : goal.returns-then-has_text
+returns-then-has_text c = let r = c.args.row in c.placed.ensures.0 ∙ value_moved r.kind r.value c.has_text.ensures c.if-has_text.true
 
-pub returns-then-kind-gt6 : goal.returns-then-kind-gt6
-returns-then-kind-gt6 c = value_high c.args.kind c.args.v c.if-kind-lt4.false c.if-kind-gt6.true
-
-pub returns : goal.returns
-returns c = value_text c.args.kind c.args.v c.if-kind-lt4.false c.if-kind-gt6.false
+pub returns-else-has_text : goal.returns-else-has_text
+returns-else-has_text c = let r = c.args.row in value_stays r.kind r.value c.has_text.ensures c.if-has_text.false

@@ -2,7 +2,7 @@
 use native.Mathlib.Omega.{arith}
 use mathlib.Core.Path.{sym, ◌∙◌}
 use borrow.Author.Tests.{not-true, not-false}
-use Rattle.run.proofs.Running.{both, no_list, no_table, ready, went}
+use Rattle.run.proofs.Running.{both, no_list, no_table, records_few, ready, went}
 use Rattle.run.proofs.evaluate.evaluate.Goals as goal
 
 pub returns-then-not-is_step_list : goal.returns-then-not-is_step_list
@@ -11,8 +11,11 @@ returns-then-not-is_step_list c = let a = c.args in no_list a.list.now a.start.n
 pub returns-then-not-is_table : goal.returns-then-not-is_table
 returns-then-not-is_table c = let a = c.args in no_table a.list.now a.start.now a.w.now (sym c.is_step_list.ensures ∙ not-false _ c.if-not-is_step_list.false-raw) (sym c.is_table.ensures ∙ not-true _ c.if-not-is_table.true-raw)
 
-pub statements-requires : goal.statements-requires
-statements-requires c = let a = c.args in let F = both a.list.now a.start.now (sym c.is_step_list.ensures ∙ not-false _ c.if-not-is_step_list.false-raw) (sym c.is_table.ensures ∙ not-false _ c.if-not-is_table.false-raw) in let R = ready a.list.now a.start.now F c.records_of.result.now c.records_of-2.result.now c.text_of-t.result.now c.text_of-u.result.now c.records_of.ensures c.records_of-2.ensures c.text_of-t.ensures c.text_of-u.ensures a.w.now c.load-n.result c.requires.0 c.load-n.ensures.1 in (omega arith, omega (arith, R.0), R.1, R.2, omega arith, omega (arith, c.load-n.auto.w), c.requires.1)
+pub invariant_of-steps : goal.invariant_of-steps
+invariant_of-steps c = let a = c.args in let F = both a.list.now a.start.now (sym c.is_step_list.ensures ∙ not-false _ c.if-not-is_step_list.false-raw) (sym c.is_table.ensures ∙ not-false _ c.if-not-is_table.false-raw) in record { few = records_few a.list.now a.start.now F c.records_of.result.now c.records_of.ensures }
+
+pub invariant_of-size : goal.invariant_of-size
+invariant_of-size c = let a = c.args in let F = both a.list.now a.start.now (sym c.is_step_list.ensures ∙ not-false _ c.if-not-is_step_list.false-raw) (sym c.is_table.ensures ∙ not-false _ c.if-not-is_table.false-raw) in let R = ready a.list.now a.start.now F c.records_of-2.result.now c.records_of.result.now c.text_of.result.now c.text_of-2.result.now c.records_of-2.ensures c.records_of.ensures c.text_of.ensures c.text_of-2.ensures a.w.now c.load-rows.result (omega arith) c.load-rows.ensures.1 in record { few = R.0; short = R.1 }
 
 pub returns : goal.returns
-returns c = let a = c.args in let F = both a.list.now a.start.now (sym c.is_step_list.ensures ∙ not-false _ c.if-not-is_step_list.false-raw) (sym c.is_table.ensures ∙ not-false _ c.if-not-is_table.false-raw) in went a.list.now a.start.now F c.records_of.result.now c.records_of-2.result.now c.text_of-t.result.now c.text_of-u.result.now c.records_of.ensures c.records_of-2.ensures c.text_of-t.ensures c.text_of-u.ensures a.w.now c.load-n.result c.requires.0 c.load-n.ensures.1 c.load-n.new.w c.statements.new.w a.s.now c.statements.result c.load-n.ensures.0 c.statements.ensures.0 c.statements.ensures.2
+returns c = let a = c.args in let F = both a.list.now a.start.now (sym c.is_step_list.ensures ∙ not-false _ c.if-not-is_step_list.false-raw) (sym c.is_table.ensures ∙ not-false _ c.if-not-is_table.false-raw) in went a.list.now a.start.now F c.records_of-2.result.now c.records_of.result.now c.text_of.result.now c.text_of-2.result.now c.records_of-2.ensures c.records_of.ensures c.text_of.ensures c.text_of-2.ensures a.w.now c.load-rows.result (omega arith) c.load-rows.ensures.1 c.load-rows.new.w c.statements.new.w a.s.now c.statements.result c.load-rows.ensures.0 c.statements.ensures.0 c.statements.ensures.2

@@ -7,20 +7,11 @@ use Rattle.run.specs.Paths.{names, FoundIn, FindsIn}
 use Rattle.run.proofs.Finding.{resolve_here, resolve_ends, resolve_again}
 use Rattle.run.proofs.find.+resolve.Goals as goal
 
-pub find-found-requires : goal.find-found-requires
-find-found-requires t c = let p = c.requires in (p.0, p.1, omega (arith, p.2, p.3), omega (arith, p.3), omega (arith, p.4), p.5, p.6)
-
-pub returns-then-k-eq0 : goal.returns-then-k-eq0
-returns-then-k-eq0 t c = let a = c.args in let p = c.requires in (tt, resolve_ends a.t.now a.u.now a.w.now a.n p.0 p.1 a.scope.now (names a.t.now a.u.now a.refs.now a.m) a.k c.if-k-eq0.true (subst (FindsIn (view a.t.now a.u.now a.w.now a.n) ((names a.t.now a.u.now a.scope.now a.k) ++ (names a.t.now a.u.now a.refs.now a.m))) c.in_default.is c.find-found.ensures.1))
-
-pub overflow_sub-k : goal.overflow_sub-k
-overflow_sub-k t c = omega arith
-
-pub resolve-requires : goal.resolve-requires
-resolve-requires t c = let a = c.args in let p = c.requires in (omega (arith, c.decreases, c.if-k-eq0.false), (p.0, p.1, p.2, p.3, p.4, omega (arith, p.5), omega (arith, p.6)))
+pub returns-then-scope-eq0 : goal.returns-then-scope-eq0
+returns-then-scope-eq0 t c = let a = c.args in let p = c.requires in (tt, resolve_ends a.texts.list.now a.texts.table.now a.store.rows.bytes.now a.store.rows.count (omega (arith, a.store.few)) a.store.room a.scope.places.now (names a.texts.list.now a.texts.table.now a.reference.places.now a.reference.count) a.scope.count c.if-scope-eq0.true (subst (FindsIn (view a.texts.list.now a.texts.table.now a.store.rows.bytes.now a.store.rows.count) ((names a.texts.list.now a.texts.table.now a.scope.places.now a.scope.count) ++ (names a.texts.list.now a.texts.table.now a.reference.places.now a.reference.count))) c.in_default.is c.find.ensures.1))
 
 pub returns-in_default : goal.returns-in_default
-returns-in_default t c = let a = c.args in let p = c.requires in (c.resolve.ensures.0, resolve_again a.t.now a.u.now a.w.now a.n p.0 p.1 a.scope.now (names a.t.now a.u.now a.refs.now a.m) a.k c.resolve.result c.if-k-eq0.false (subst (FindsIn (view a.t.now a.u.now a.w.now a.n) ((names a.t.now a.u.now a.scope.now a.k) ++ (names a.t.now a.u.now a.refs.now a.m))) c.in_default.is c.find-found.ensures.1) c.resolve.ensures.1)
+returns-in_default t c = let a = c.args in let p = c.requires in (c.resolve.ensures.0, resolve_again a.texts.list.now a.texts.table.now a.store.rows.bytes.now a.store.rows.count (omega (arith, a.store.few)) a.store.room a.scope.places.now (names a.texts.list.now a.texts.table.now a.reference.places.now a.reference.count) a.scope.count c.resolve.result c.if-scope-eq0.false (subst (FindsIn (view a.texts.list.now a.texts.table.now a.store.rows.bytes.now a.store.rows.count) ((names a.texts.list.now a.texts.table.now a.scope.places.now a.scope.count) ++ (names a.texts.list.now a.texts.table.now a.reference.places.now a.reference.count))) c.in_default.is c.find.ensures.1) c.resolve.ensures.1)
 
 pub returns : goal.returns
-returns t c = let a = c.args in let p = c.requires in (subst (FoundIn a.n) c.in-At.is c.find-found.ensures.0, resolve_here a.t.now a.u.now a.w.now a.n p.0 p.1 a.scope.now (names a.t.now a.u.now a.refs.now a.m) a.k c.in-At.i (subst (FindsIn (view a.t.now a.u.now a.w.now a.n) ((names a.t.now a.u.now a.scope.now a.k) ++ (names a.t.now a.u.now a.refs.now a.m))) c.in-At.is c.find-found.ensures.1))
+returns t c = let a = c.args in let p = c.requires in (subst (FoundIn a.store.rows.count) c.in-Some.is c.find.ensures.0, resolve_here a.texts.list.now a.texts.table.now a.store.rows.bytes.now a.store.rows.count (omega (arith, a.store.few)) a.store.room a.scope.places.now (names a.texts.list.now a.texts.table.now a.reference.places.now a.reference.count) a.scope.count c.in-Some.i (subst (FindsIn (view a.texts.list.now a.texts.table.now a.store.rows.bytes.now a.store.rows.count) ((names a.texts.list.now a.texts.table.now a.scope.places.now a.scope.count) ++ (names a.texts.list.now a.texts.table.now a.reference.places.now a.reference.count))) c.in-Some.is c.find.ensures.1))

@@ -1,4 +1,4 @@
 use Rattle.run.proofs.find.+resolve.Given as goal
 
 abbrev pub decreases-resolve : goal.decreases-resolve
-decreases-resolve l = l.k
+decreases-resolve l = l.scope.count

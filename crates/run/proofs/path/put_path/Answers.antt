@@ -5,32 +5,8 @@ use mathlib.Core.Path.{refl, ◌∙◌}
 use Rattle.run.proofs.Placing.{after_none, after_more, put_none, put_turn, put_end}
 use Rattle.run.proofs.path.put_path.Goals as goal
 
-pub overflow_add-q : goal.overflow_add-q
-overflow_add-q c = omega arith
-
 pub loop-i-init : goal.loop-i-init
 loop-i-init c = let a = c.args in (omega arith, omega arith, refl, after_none a.t.now (a.p + 1), put_none a.t.now a.s.now (a.p + 1) a.at)
-
-pub overflow_mul-i : goal.overflow_mul-i
-overflow_mul-i c = omega (arith, c.count-n.ensures.1)
-
-pub overflow_add-at : goal.overflow_add-at
-overflow_add-at c = omega (arith, c.count-n.ensures.1)
-
-pub overflow_cast-q : goal.overflow_cast-q
-overflow_cast-q c = omega (arith, c.count-n.ensures.1)
-
-pub overflow_add-q-in-loop-i : goal.overflow_add-q-in-loop-i
-overflow_add-q-in-loop-i c = omega (arith, c.count-n.ensures.1)
-
-pub overflow_add-q-in-loop-i-2 : goal.overflow_add-q-in-loop-i-2
-overflow_add-q-in-loop-i-2 c = omega (arith, c.count-n.ensures.1, c.byte.ensures.1)
-
-pub overflow_add-i : goal.overflow_add-i
-overflow_add-i c = omega (arith, c.count-n.ensures.1)
-
-pub loop-i-smaller : goal.loop-i-smaller
-loop-i-smaller c = omega arith
 
 pub loop-i-preserved : goal.loop-i-preserved
 loop-i-preserved c =

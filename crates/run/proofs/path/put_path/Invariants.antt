@@ -1,4 +1,4 @@
-use Prim.Native.Nat.{◌+◌, ◌*◌, ◌-◌, ◌≤◌}
+use Prim.Native.Nat.{◌+◌, ◌*◌, ◌≤◌}
 use mathlib.Core.Path.{◌≡◌}
 use lib.ListN.{length}
 use Rattle.memory.specs.Memory.{stored}
@@ -8,6 +8,3 @@ use Rattle.run.proofs.path.put_path.Given as goal
 
 abbrev pub invariant-loop-i : goal.invariant-loop-i
 invariant-loop-i l = (l.i ≤ l.n) × (l.q ≤ l.p + 1 + 256 * l.i) × (length l.s ≡ length l.initial.s) × (l.q ≡ after l.t (l.p + 1) l.i) × (l.s ≡ stored l.initial.s l.at (places l.t (l.p + 1) l.i))
-
-abbrev pub decreases-loop-i : goal.decreases-loop-i
-decreases-loop-i l = l.n - l.i

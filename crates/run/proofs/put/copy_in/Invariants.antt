@@ -12,8 +12,8 @@ use Rattle.run.proofs.put.copy_in.Given as goal
 
 abbrev pub invariant-loop-j : goal.invariant-loop-j
 invariant-loop-j l =
-    (l.rows ≤ 1024) × (l.bytes ≤ 16384) × (l.j ≤ l.m) × (length l.w ≡ length l.initial.w)
-    × ((st c : Store) (p : ℕ) → Held (view l.t l.u l.initial.w l.n) l.text st → view l.t l.u l.s l.m ≡ flat (1 + length (names l.t l.u l.path l.k)) c → Mid l.t l.u l.w l.s l.rows l.m l.bytes l.j (names l.t l.u l.path l.k) p (copy p (names l.t l.u l.path l.k) c st))
+    (l.j ≤ l.rows.count)
+    × ((st c : Store) (p : ℕ) → Held (view l.texts.list.now l.texts.table.now l.initial.w l.initial.size.rows) l.initial.size.text st → view l.texts.list.now l.texts.table.now l.rows.bytes.now l.rows.count ≡ flat (1 + length (names l.texts.list.now l.texts.table.now l.path.places.now l.path.count)) c → Mid l.texts.list.now l.texts.table.now l.w l.rows.bytes.now l.size.rows l.rows.count l.size.text l.j (names l.texts.list.now l.texts.table.now l.path.places.now l.path.count) p (copy p (names l.texts.list.now l.texts.table.now l.path.places.now l.path.count) c st))
 
 abbrev pub decreases-loop-j : goal.decreases-loop-j
-decreases-loop-j l = l.m - l.j
+decreases-loop-j l = l.rows.count - l.j

@@ -2,18 +2,24 @@
 use mathlib.Core.Path.{refl}
 use Rattle.run.proofs.Putting.{over_place, over_depth, over_nodes, over_text, within}
 use Rattle.run.proofs.put.put_bounded.Goals as goal
+use Rattle.run.proofs.put.put_bounded.Goals.{then-d-gt-DEPTH-via-then-d-gt-DEPTH, then-d-gt-DEPTH-via-else-d-gt-DEPTH+then-deepest_of-gt-DEPTH}
 
-pub returns-then-d-gt32 : goal.returns-then-d-gt32
-returns-then-d-gt32 c = let a = c.args in let p = c.requires in (tt, λ pre q k v low l is ev et sh. over_place a.t.now a.u.now a.w.now a.s.now a.w.now a.n a.m a.lo a.d a.text a.name.now p.1 p.6 _ refl pre q k v ev c.if-d-gt32.true)
+pub returns-then-d-gt-DEPTH : goal.returns-then-d-gt-DEPTH
+returns-then-d-gt-DEPTH c =
+    let a = c.args in
+    let p = c.requires in (
+      tt,
+      λ pre q k v low l is ev et sh. elim c.then-d-gt-DEPTH.branch [
+        | then-d-gt-DEPTH-via-then-d-gt-DEPTH w ↦ over_place a.texts.list.now a.texts.table.now a.w.now a.new.rows.bytes.now a.w.now a.size.rows a.new.rows.count a.lo a.d a.size.text a.name.now a.new.few a.new.room _ refl pre q k v ev w.if-d-gt-DEPTH.true
+        | then-d-gt-DEPTH-via-else-d-gt-DEPTH+then-deepest_of-gt-DEPTH w ↦ over_depth a.texts.list.now a.texts.table.now a.w.now a.new.rows.bytes.now a.w.now a.size.rows a.new.rows.count a.lo a.d a.size.text a.name.now a.new.few a.new.room w.deepest_of.result (w.deepest_of.ensures a.texts.list.now a.texts.table.now) pre q k v ev w.if-deepest_of-gt-DEPTH.true
+      ],
+    )
 
-pub returns-then-deepest_of-gt32 : goal.returns-then-deepest_of-gt32
-returns-then-deepest_of-gt32 c = let a = c.args in let p = c.requires in (tt, λ pre q k v low l is ev et sh. over_depth a.t.now a.u.now a.w.now a.s.now a.w.now a.n a.m a.lo a.d a.text a.name.now p.1 p.6 c.deepest_of.result (c.deepest_of.ensures a.t.now a.u.now) pre q k v ev c.if-deepest_of-gt32.true)
+pub returns-then-grown-gt-NODES : goal.returns-then-grown-gt-NODES
+returns-then-grown-gt-NODES c = let a = c.args in let p = c.requires in (tt, λ pre q k v low l is ev et sh. over_nodes a.texts.list.now a.texts.table.now a.w.now a.new.rows.bytes.now c.put_in-grown.new.w a.size.rows a.new.rows.count a.lo a.d a.size.text a.name.now a.new.few a.new.room c.deepest_of.result (c.deepest_of.ensures a.texts.list.now a.texts.table.now) pre q k v ev c.put_in-grown.result.rows c.put_in-grown.result.text c.put_in-grown.ensures low l is et sh c.if-deepest_of-gt-DEPTH.false c.if-grown-gt-NODES.true)
 
-pub returns-then-size-gt1024 : goal.returns-then-size-gt1024
-returns-then-size-gt1024 c = let a = c.args in let p = c.requires in (tt, λ pre q k v low l is ev et sh. over_nodes a.t.now a.u.now a.w.now a.s.now c.put_in-size.new.w a.n a.m a.lo a.d a.text a.name.now p.1 p.6 c.deepest_of.result (c.deepest_of.ensures a.t.now a.u.now) pre q k v ev c.put_in-size.result.rows c.put_in-size.result.text c.put_in-size.ensures low l is et sh c.if-deepest_of-gt32.false c.if-size-gt1024.true)
-
-pub returns-then-size-gt16384 : goal.returns-then-size-gt16384
-returns-then-size-gt16384 c = let a = c.args in let p = c.requires in (tt, λ pre q k v low l is ev et sh. over_text a.t.now a.u.now a.w.now a.s.now c.put_in-size.new.w a.n a.m a.lo a.d a.text a.name.now p.1 p.6 c.deepest_of.result (c.deepest_of.ensures a.t.now a.u.now) pre q k v ev c.put_in-size.result.rows c.put_in-size.result.text c.put_in-size.ensures low l is et sh c.if-deepest_of-gt32.false c.if-size-gt1024.false c.if-size-gt16384.true)
+pub returns-then-grown-gt-TEXT : goal.returns-then-grown-gt-TEXT
+returns-then-grown-gt-TEXT c = let a = c.args in let p = c.requires in (tt, λ pre q k v low l is ev et sh. over_text a.texts.list.now a.texts.table.now a.w.now a.new.rows.bytes.now c.put_in-grown.new.w a.size.rows a.new.rows.count a.lo a.d a.size.text a.name.now a.new.few a.new.room c.deepest_of.result (c.deepest_of.ensures a.texts.list.now a.texts.table.now) pre q k v ev c.put_in-grown.result.rows c.put_in-grown.result.text c.put_in-grown.ensures low l is et sh c.if-deepest_of-gt-DEPTH.false c.if-grown-gt-NODES.false c.if-grown-gt-TEXT.true)
 
 pub returns : goal.returns
-returns c = let a = c.args in let p = c.requires in ((c.if-size-gt1024.false, c.if-size-gt16384.false, c.if-d-gt32.false), λ pre q k v low l is ev et sh. within a.t.now a.u.now a.w.now a.s.now c.put_in-size.new.w a.n a.m a.lo a.d a.text a.name.now p.1 p.6 c.deepest_of.result (c.deepest_of.ensures a.t.now a.u.now) pre q k v ev c.put_in-size.result.rows c.put_in-size.result.text c.put_in-size.ensures low l is et sh c.if-deepest_of-gt32.false c.if-size-gt1024.false c.if-size-gt16384.false)
+returns c = let a = c.args in let p = c.requires in (c.if-d-gt-DEPTH.false, λ pre q k v low l is ev et sh. within a.texts.list.now a.texts.table.now a.w.now a.new.rows.bytes.now c.put_in-grown.new.w a.size.rows a.new.rows.count a.lo a.d a.size.text a.name.now a.new.few a.new.room c.deepest_of.result (c.deepest_of.ensures a.texts.list.now a.texts.table.now) pre q k v ev c.put_in-grown.result.rows c.put_in-grown.result.text c.put_in-grown.ensures low l is et sh c.if-deepest_of-gt-DEPTH.false c.if-grown-gt-NODES.false c.if-grown-gt-TEXT.false)

@@ -8,7 +8,7 @@ abbrev pub decreases-items : goal.decreases-items
 decreases-items l = l.n
 
 abbrev pub invariant-loop-k : goal.invariant-loop-k
-invariant-loop-k l = (l.k ≤ l.n) × (length l.s ≡ length l.initial.s) × Goes l.list l.t l.i l.n l.q l.depth l.initial.s l.s l.k
+invariant-loop-k l = (l.k ≤ l.n) × (length l.s ≡ 65536) × Goes l.list.bytes.now l.t l.i l.n l.q l.depth l.initial.s l.s l.k
 
 abbrev pub decreases-loop-k : goal.decreases-loop-k
 decreases-loop-k l = l.n - l.k

@@ -1,12 +1,9 @@
 -- `write::record::value_figure` meets its contract. Assumes nothing.
-use Rattle.write.proofs.Records.{value_low, value_high, value_text}
+use Rattle.write.proofs.Records.{value_none, value_some}
 use Rattle.write.proofs.record.value_figure.Goals as goal
 
-pub returns-then-kind-lt4 : goal.returns-then-kind-lt4
-returns-then-kind-lt4 c = λ t u m. value_low t u c.args.kind c.args.v m c.args.pos c.if-kind-lt4.true
+pub returns-then-has_text : goal.returns-then-has_text
+returns-then-has_text c = λ t u. value_some t u c.args.row c.args.pos c.has_text.ensures c.if-has_text.true
 
-pub returns-then-kind-gt6 : goal.returns-then-kind-gt6
-returns-then-kind-gt6 c = λ t u m. value_high t u c.args.kind c.args.v m c.args.pos c.if-kind-lt4.false c.if-kind-gt6.true
-
-pub returns : goal.returns
-returns c = λ t u m. value_text t u c.args.kind c.args.v m c.args.pos c.if-kind-lt4.false c.if-kind-gt6.false
+pub returns-else-has_text : goal.returns-else-has_text
+returns-else-has_text c = λ t u. value_none t u c.args.row c.args.pos c.has_text.ensures c.if-has_text.false
