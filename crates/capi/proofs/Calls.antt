@@ -11,28 +11,26 @@ use Rattle.paper.specs.Operations.{translates, runs, takes_main, resolves}
 use Rattle.paper.specs.Lent.{Outcome, told, Lent}
 use Rattle.theorems.proofs.Demands.{demands}
 use Rattle.theorems.proofs.Kept.Slices.{translate_fits, run_fits, main_fits, resolve_fits}
+use Rattle.std.specs.Prelude.{Result, Ok, Err, IfErr}
+use Rattle.refusal.specs.Refused.{number_of, answered}
+use Rattle.refusal.specs.declared.Refusal.{Refusal}
 use Rattle.capi.specs.Called.{Called, coded, in_c}
 
--- ---- the two cases of an answer
-
-pub done_call : (x : Outcome) (a : Answer ℕ) (n : ℕ) (o : List ℕ) (ws : List (List ℕ)) → ◌≡◌ {A = Outcome} (record { answer = a; output = o; works = ws }) x → a ≡ ok n
-    → ◌≡◌ {A = Called} (record { result = n; output = o; works = ws }) (in_c x)
-unfolding in_c coded
-done_call x a n o ws met e = ap (λ b. in_c (record { answer = b; output = o; works = ws })) (sym e) ∙ ap in_c met
-
-pub refused_call : (x : Outcome) (a : Answer ℕ) (n p r : ℕ) (o : List ℕ) (ws : List (List ℕ)) → ◌≡◌ {A = Outcome} (record { answer = a; output = o; works = ws }) x → a ≡ refused n p → r ≡ n * 4294967296 + p
-    → ◌≡◌ {A = Called} (record { result = r; output = o; works = ws }) (in_c x)
-unfolding in_c coded
-refused_call x a n p r o ws met e q =
-    ap (λ k. record { result = k; output = o; works = ws }) q ∙ ap (λ b. in_c (record { answer = b; output = o; works = ws })) (sym e) ∙ ap in_c met
+pub called : (x : Outcome) (r : Result ℕ Refusal) (k : ℕ) (o : List ℕ) (ws : List (List ℕ))
+    → ◌≡◌ {A = Outcome} (record { answer = answered r; output = o; works = ws }) x → k ≡ coded (answered r)
+    → ◌≡◌ {A = Called} (record { result = k; output = o; works = ws }) (in_c x)
+unfolding in_c
+called x r k o ws met e = ap (λ j. record { result = j; output = o; works = ws }) e ∙ ap in_c met
 
 -- ---- a refusal's number and place are small, so that the two do not run together
 
 abbrev pub Small : Outcome → Type 0
 Small x = (n p : ℕ) → x.answer ≡ refused n p → (n ≤ 20) × (p ≤ 32768)
 
-pub small_call : (x : Outcome) → Small x → (a : Answer ℕ) (n p : ℕ) (o : List ℕ) (ws : List (List ℕ)) → ◌≡◌ {A = Outcome} (record { answer = a; output = o; works = ws }) x → a ≡ refused n p → (n ≤ 20) × (p ≤ 32768)
-small_call x s a n p o ws met e = s n p (sym (ap (λ (y : Outcome). y.answer) met) ∙ e)
+pub small_call : (x : Outcome) → Small x → (r : Result ℕ Refusal) (o : List ℕ) (ws : List (List ℕ))
+    → ◌≡◌ {A = Outcome} (record { answer = answered r; output = o; works = ws }) x → IfErr r (λ e. e.place ≤ 32768)
+small_call x s (Ok n) o ws met = tt
+small_call x s (Err f) o ws met = (s (number_of f.reason) f.place (sym (ap (λ (y : Outcome). y.answer) met))).1
 
 untold : (a : Answer (List ℕ)) (n p : ℕ) → told a ≡ refused n p → a ≡ refused n p
 unfolding told

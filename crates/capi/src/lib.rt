@@ -1,11 +1,13 @@
 // The four operations as C is told of them: the answer is one number. `capi_c` exports them.
 #![tactic(auto)]
 
-ghost use Rattle.std.specs.Prelude.{◌≡◌, [], ◌∷◌, ◌≤◌, ◌+◌, ◌*◌};
+ghost use Rattle.std.specs.Prelude.{◌≡◌, [], ◌∷◌, ◌≤◌, IfErr};
 ghost use Rattle.paper.specs.Operations.{translates, runs, takes_main, resolves};
-ghost use Rattle.capi.specs.Called.{Called, in_c};
+ghost use Rattle.refusal.specs.Refused.{answered};
+ghost use Rattle.capi.specs.Called.{Called, coded, in_c};
 
 use main_table::main;
+use refusal::Refusal;
 use resolve::resolve;
 use run::run;
 use translate::translate;
@@ -13,20 +15,21 @@ use translate::translate;
 const HIGH: u64 = 4294967296;
 
 // A refusal's number in the upper half, its place in the lower.
-fn refusal(number: usize, place: usize) -> u64
-    requires { (number ≤ 20) × (place ≤ 32768) }
-    ensures { result ≡ number * 4294967296 + place }
+fn code(answer: Result<usize, Refusal>) -> u64
+    requires { IfErr answer (λ refusal. refusal.place ≤ 32768) }
+    ensures { result ≡ coded (answered answer) }
 {
-    number as u64 * HIGH + place as u64
+    match answer {
+        Ok(length) => length as u64,
+        Err(Refusal { reason, place }) => reason.number() as u64 * HIGH + place as u64,
+    }
 }
 
 pub fn sf_translate(src: &[u8], out: &mut [u8], work: &mut [u8]) -> u64
-    ensures { ◌≡◌ {A = Called} (record { result = result; output = out.new; works = work.new ∷ [] }) (in_c (translates src.now out.old work.old)) }
+    ensures { ◌≡◌ {A = Called} (record { result = result; output = out.new; works = work.new ∷ [] })
+        (in_c (translates src.now out.old work.old)) }
 {
-    match translate(src, out, work) {
-        translate::Answer::Done(n) => n as u64,
-        translate::Answer::Refused(number, place) => refusal(number, place),
-    }
+    code(translate(src, out, work))
 }
 
 pub fn sf_run<'a>(
@@ -36,21 +39,17 @@ pub fn sf_run<'a>(
     work1: &mut [u8],
     work2: &mut [u8],
 ) -> u64
-    ensures { ◌≡◌ {A = Called} (record { result = result; output = out.new; works = work1.new ∷ work2.new ∷ [] }) (in_c (runs steps.now table.now out.old work1.old work2.old)) }
+    ensures { ◌≡◌ {A = Called} (record { result = result; output = out.new; works = work1.new ∷ work2.new ∷ [] })
+        (in_c (runs steps.now table.now out.old work1.old work2.old)) }
 {
-    match run(steps, table, out, work1, work2) {
-        run::Answer::Done(n) => n as u64,
-        run::Answer::Refused(number, place) => refusal(number, place),
-    }
+    code(run(steps, table, out, work1, work2))
 }
 
 pub fn sf_main(table: &[u8], out: &mut [u8]) -> u64
-    ensures { ◌≡◌ {A = Called} (record { result = result; output = out.new; works = [] }) (in_c (takes_main table.now out.old)) }
+    ensures { ◌≡◌ {A = Called} (record { result = result; output = out.new; works = [] })
+        (in_c (takes_main table.now out.old)) }
 {
-    match main(table, out) {
-        main_table::Answer::Done(n) => n as u64,
-        main_table::Answer::Refused(number, place) => refusal(number, place),
-    }
+    code(main(table, out))
 }
 
 pub fn sf_resolve(
@@ -60,10 +59,9 @@ pub fn sf_resolve(
     work2: &mut [u8],
     work3: &mut [u8],
 ) -> u64
-    ensures { ◌≡◌ {A = Called} (record { result = result; output = out.new; works = work1.new ∷ work2.new ∷ work3.new ∷ [] }) (in_c (resolves src.now out.old work1.old work2.old work3.old)) }
+    ensures { ◌≡◌ {A = Called}
+        (record { result = result; output = out.new; works = work1.new ∷ work2.new ∷ work3.new ∷ [] })
+        (in_c (resolves src.now out.old work1.old work2.old work3.old)) }
 {
-    match resolve(src, out, work1, work2, work3) {
-        run::Answer::Done(n) => n as u64,
-        run::Answer::Refused(number, place) => refusal(number, place),
-    }
+    code(resolve(src, out, work1, work2, work3))
 }

@@ -5,7 +5,7 @@ ghost use Rattle.demands.specs.Slices.{FourLong, Third};
 
 use crate::operations::{runs, translates};
 use memory::clear;
-use run::Answer;
+use refusal::{Reason, Refusal};
 
 const LIST: usize = 53272;
 
@@ -20,17 +20,17 @@ fn in_turn<'a>(
     out: &mut [u8],
     work1: &mut [u8],
     work2: &mut [u8],
-) -> Answer
+) -> Result<usize, Refusal>
     requires { FourLong list.old out.old work1.old work2.old }
     ensures { Third src.now table.now
         list.old out.old work1.old work2.old list.new
         (outcome result out.new work1.new work2.new) }
 {
     match translates(src, list, work1) {
-        translate::Answer::Done(n) => runs(&list[0..n], table, out, work1, work2),
-        translate::Answer::Refused(number, place) => {
+        Ok(n) => runs(&list[..n], table, out, work1, work2),
+        Err(refusal) => {
             clear(work2);
-            Answer::Refused(number, place)
+            Err(refusal)
         }
     }
 }
@@ -42,22 +42,16 @@ pub fn evaluates<'a>(
     out: &mut [u8],
     work1: &mut [u8],
     work2: &mut [u8],
-) -> Answer
+) -> Result<usize, Refusal>
     ensures { Third src.now table.now
         list.old out.old work1.old work2.old list.new
         (outcome result out.new work1.new work2.new) }
 {
-    if list.len() < LIST {
-        return Answer::Refused(8, 0);
-    }
-    if out.len() < TABLE {
-        return Answer::Refused(8, 0);
-    }
-    if work1.len() < WORK {
-        return Answer::Refused(8, 0);
-    }
-    if work2.len() < WORK {
-        return Answer::Refused(8, 0);
+    if list.len() < LIST || out.len() < TABLE || work1.len() < WORK || work2.len() < WORK {
+        return Err(Refusal {
+            reason: Reason::SliceTooShort,
+            place: 0,
+        });
     }
     in_turn(src, table, list, out, work1, work2)
 }

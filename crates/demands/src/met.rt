@@ -5,7 +5,7 @@ ghost use Rattle.paper.specs.Operations as Paper;
 ghost use Rattle.run.specs.Runs as Run;
 ghost use Rattle.resolve.specs.Resolves as Resolve;
 
-use run::Answer;
+use refusal::Refusal;
 
 pub(crate) fn resolve_met(
     src: &[u8],
@@ -13,7 +13,7 @@ pub(crate) fn resolve_met(
     work1: &mut [u8],
     work2: &mut [u8],
     work3: &mut [u8],
-) -> Answer
+) -> Result<usize, Refusal>
     ensures { ◌≡◌ {A = Outcome} (Resolve.outcome result
         out.new work1.new work2.new work3.new)
         (Paper.resolves src.now
@@ -28,7 +28,7 @@ pub(crate) fn run_met<'a>(
     out: &mut [u8],
     work1: &mut [u8],
     work2: &mut [u8],
-) -> Answer
+) -> Result<usize, Refusal>
     ensures { ◌≡◌ {A = Outcome} (Run.outcome result
         out.new work1.new work2.new)
         (Paper.runs steps.now table.now

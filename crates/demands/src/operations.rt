@@ -3,21 +3,21 @@ ghost use Rattle.std.specs.Prelude.{◌≡◌, [], ◌∷◌};
 ghost use Rattle.paper.specs.Limits.{least_list, least_table};
 ghost use Rattle.paper.specs.Lent.{Outcome, Call, Enough};
 ghost use Rattle.paper.specs.Allowed.{Translates, Runs, TakesMain, Resolves};
-ghost use Rattle.translate.specs.Answers as Translate;
+ghost use Rattle.refusal.specs.Refused.{answered};
 ghost use Rattle.run.specs.Runs as Run;
 ghost use Rattle.main_table.specs.Main as Main;
 ghost use Rattle.resolve.specs.Resolves as Resolve;
 
 use crate::met::{resolve_met, run_met};
-use run::Answer;
+use refusal::Refusal;
 
-pub fn translates(src: &[u8], out: &mut [u8], work: &mut [u8]) -> translate::Answer
+pub fn translates(src: &[u8], out: &mut [u8], work: &mut [u8]) -> Result<usize, Refusal>
     ensures { Call
         (Enough least_list out.old (work.old ∷ []))
         (Translates src.now)
         out.old
         (work.old ∷ [])
-        (record { answer = Translate.answered result; output = out.new; works = work.new ∷ [] }) }
+        (record { answer = answered result; output = out.new; works = work.new ∷ [] }) }
 {
     translate::translate(src, out, work)
 }
@@ -28,7 +28,7 @@ pub fn runs<'a>(
     out: &mut [u8],
     work1: &mut [u8],
     work2: &mut [u8],
-) -> Answer
+) -> Result<usize, Refusal>
     ensures { Call
         (Enough least_table out.old (work1.old ∷ work2.old ∷ []))
         (Runs steps.now table.now)
@@ -39,7 +39,7 @@ pub fn runs<'a>(
     run_met(steps, table, out, work1, work2)
 }
 
-pub fn takes_main(table: &[u8], out: &mut [u8]) -> main_table::Answer
+pub fn takes_main(table: &[u8], out: &mut [u8]) -> Result<usize, Refusal>
     ensures { Call
         (Enough least_table out.old [])
         (TakesMain table.now)
@@ -57,7 +57,7 @@ pub fn resolves(
     work1: &mut [u8],
     work2: &mut [u8],
     work3: &mut [u8],
-) -> Answer
+) -> Result<usize, Refusal>
     ensures { Call
         (Enough least_table out.old (work1.old ∷ work2.old ∷ work3.old ∷ []))
         (Resolves src.now)

@@ -3,28 +3,22 @@
 use Prim.Native.Nat.{ℕ}
 use mathlib.Core.Path.{◌≡◌, ap}
 use mathlib.Core.List.{List}
+use Rattle.std.specs.Prelude.{Result}
 use Rattle.paper.specs.Lent.{Outcome}
 use Rattle.paper.specs.Determines.{Determines, ◌&◌}
-use Rattle.main_table.specs.Main.{answered, outcome}
-use Rattle.main_table.specs.declared.operation.Answer.{Answer}
-use Rattle.main_table.specs.declared.operation.Answer.TheVariants.{Done, Refused}
+use Rattle.refusal.specs.declared.Refusal.{Refusal}
+use Rattle.refusal.proofs.One.{answered_one}
+use Rattle.main_table.specs.Main.{outcome}
 use Rattle.main_table.proofs.operation.main.Reads as Main
 
 pub record Returned : Type 0 where
-  pub answer : Answer
+  pub answer : Result ℕ Refusal
   pub output : List ℕ
 
-abbrev pub returned : Answer → List ℕ → Returned
+abbrev pub returned : Result ℕ Refusal → List ℕ → Returned
 returned r o = record { answer = r; output = o }
 
--- no two answers are told alike
-answered_one : (r r' : Answer) → answered r ≡ answered r' → r ≡ r'
-answered_one (Done n) (Done m) e = cc
-answered_one (Done n) (Refused m q) e = cc
-answered_one (Refused n p) (Done m) e = cc
-answered_one (Refused n p) (Refused m q) e = cc
-
-pub one : (r r' : Answer) (o o' : List ℕ) → outcome r o ≡ outcome r' o' → returned r o ≡ returned r' o'
+pub one : (r r' : Result ℕ Refusal) (o o' : List ℕ) → outcome r o ≡ outcome r' o' → returned r o ≡ returned r' o'
 one r r' o o' e =
     let answer = answered_one r r' (ap (λ (x : Outcome). x.answer) e) in
     let output = ap (λ (x : Outcome). x.output) e in

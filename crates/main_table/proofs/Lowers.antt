@@ -21,22 +21,6 @@ use Rattle.main_table.specs.Lower.{moved_label, moved_value, lowered, lowered_al
 next : (s t u : List ℕ) (at p : ℕ) (a b : List ℕ) → t ≡ stored s at a → u ≡ stored t p b → p ≡ at + length a → p + length b ≤ length s → u ≡ stored s at (a ++ b)
 next s t u at p a b e f q h = f ∙ ap (λ x. stored x p b) e ∙ then_stored s at p a b q h
 
-next_number : (s t u : List ℕ) (at p n x : ℕ) (a : List ℕ) → t ≡ stored s at a → u ≡ stored t p (little n x) → p ≡ at + length a → p + n ≤ length s → u ≡ stored s at (a ++ little n x)
-next_number s t u at p n x a e f q h = next s t u at p a (little n x) e f q (rw (length_little n x) h)
-
-two : (x : ℕ) → length (little 2 x) ≡ 2
-two x = length_little 2 x
-
-module _ (s₀ s₁ s₂ s₃ s₄ s₅ : List ℕ) (at k d l m v : ℕ) (h : at + 16 ≤ length s₀) where
-  pub row_stored : s₁ ≡ stored s₀ at (little 2 k) → s₂ ≡ stored s₁ (at + 2) (little 2 d) → s₃ ≡ stored s₂ (at + 4) (little 2 l) → s₄ ≡ stored s₃ (at + 6) (little 2 m) → s₅ ≡ stored s₄ (at + 8) (little 8 v)
-      → s₅ ≡ stored s₀ at (little 2 k ++ (little 2 d ++ (little 2 l ++ (little 2 m ++ little 8 v))))
-  row_stored e₁ e₂ e₃ e₄ e₅ =
-      let f₂ = next_number s₀ s₁ s₂ at (at + 2) 2 d (little 2 k) e₁ e₂ (rw (two k)) (omega arith) in
-      let f₃ = next_number s₀ s₂ s₃ at (at + 4) 2 l (little 2 k ++ little 2 d) f₂ e₃ (simp (length-append, length_little)) (omega arith) in
-      let f₄ = next_number s₀ s₃ s₄ at (at + 6) 2 m ((little 2 k ++ little 2 d) ++ little 2 l) f₃ e₄ (simp (length-append, length_little)) (omega arith) in
-      let f₅ = next_number s₀ s₄ s₅ at (at + 8) 8 v (((little 2 k ++ little 2 d) ++ little 2 l) ++ little 2 m) f₄ e₅ (simp (length-append, length_little)) (omega arith) in
-      simp append_assoc at f₅
-
 -- ---- a record
 
 pub row_lowered : (recs : List ℕ) (i from k d₀ d l₀ l m v₀ v : ℕ) → i + 16 ≤ length recs → k ≡ word_at 2 recs i → d₀ ≡ word_at 2 recs (i + 2) → d ≡ d₀ - 1 → l₀ ≡ word_at 2 recs (i + 4) → l ≡ moved_label from l₀
@@ -80,15 +64,9 @@ all_turn recs s t u k i from h e f =
 
 -- ---- the header
 
-pub header_stored : (s₀ s₁ s₂ s₃ s₄ s₅ s₆ : List ℕ) (a b c d e f : ℕ) → 24 ≤ length s₀ → s₁ ≡ stored s₀ 0 (little 4 a) → s₂ ≡ stored s₁ 4 (little 4 b) → s₃ ≡ stored s₂ 8 (little 4 c) → s₄ ≡ stored s₃ 12 (little 4 d)
-    → s₅ ≡ stored s₄ 16 (little 4 e) → s₆ ≡ stored s₅ 20 (little 4 f) → s₆ ≡ stored s₀ 0 (little 4 a ++ (little 4 b ++ (little 4 c ++ (little 4 d ++ (little 4 e ++ little 4 f)))))
-header_stored s₀ s₁ s₂ s₃ s₄ s₅ s₆ a b c d e f h e₁ e₂ e₃ e₄ e₅ e₆ =
-    let f₂ = next_number s₀ s₁ s₂ 0 4 4 b (little 4 a) e₁ e₂ (simp (length-append, length_little)) (omega arith) in
-    let f₃ = next_number s₀ s₂ s₃ 0 8 4 c (little 4 a ++ little 4 b) f₂ e₃ (simp (length-append, length_little)) (omega arith) in
-    let f₄ = next_number s₀ s₃ s₄ 0 12 4 d ((little 4 a ++ little 4 b) ++ little 4 c) f₃ e₄ (simp (length-append, length_little)) (omega arith) in
-    let f₅ = next_number s₀ s₄ s₅ 0 16 4 e (((little 4 a ++ little 4 b) ++ little 4 c) ++ little 4 d) f₄ e₅ (simp (length-append, length_little)) (omega arith) in
-    let f₆ = next_number s₀ s₅ s₆ 0 20 4 f ((((little 4 a ++ little 4 b) ++ little 4 c) ++ little 4 d) ++ little 4 e) f₅ e₆ (simp (length-append, length_little)) (omega arith) in
-    simp append_assoc at f₆
+-- of a table
+abbrev pub head : ℕ → ℕ → List ℕ
+head n t = little 4 2 ++ (little 4 (24 + 16 * n + t) ++ (little 4 n ++ (little 4 24 ++ (little 4 t ++ little 4 (24 + 16 * n)))))
 
 -- ---- places
 
@@ -126,13 +104,10 @@ from_is recs text i p b e f = rw (f, e)
 
 -- ---- the whole
 
-abbrev front : ℕ → ℕ → List ℕ
-front n t = little 4 2 ++ (little 4 (24 + 16 * n + t) ++ (little 4 n ++ (little 4 24 ++ (little 4 t ++ little 4 (24 + 16 * n)))))
-
-front_length : (n t : ℕ) → length (front n t) ≡ 24
+front_length : (n t : ℕ) → length (head n t) ≡ 24
 front_length n t = simp (length-append, length_little)
 
-front_headed : (n t : ℕ) (a p : List ℕ) → length p ≡ t → (front n t ++ a) ++ p ≡ headed 2 n (24 + 16 * n) a p
+front_headed : (n t : ℕ) (a p : List ℕ) → length p ≡ t → (head n t ++ a) ++ p ≡ headed 2 n (24 + 16 * n) a p
 unfolding headed
 front_headed n t a p e = rw e (simp append_assoc)
 
@@ -146,16 +121,16 @@ module _ (recs text s₀ s₁ s₂ s₃ : List ℕ) (i n from to : ℕ) (en : n 
   part_long : length (take (to - from) (drop from text)) ≡ to - from
   part_long = length_own text from (to - from) (omega arith)
 
-  pub table_stored : s₁ ≡ stored s₀ 0 (front n (to - from)) → s₂ ≡ stored s₁ 24 (lowered_all recs (i + 16) from n) → s₃ ≡ stored s₂ (24 + 16 * n) (part_at text from (to - from)) → s₃ ≡ stored s₀ 0 (lowered_table recs text i)
+  pub table_stored : s₁ ≡ stored s₀ 0 (head n (to - from)) → s₂ ≡ stored s₁ 24 (lowered_all recs (i + 16) from n) → s₃ ≡ stored s₂ (24 + 16 * n) (part_at text from (to - from)) → s₃ ≡ stored s₀ 0 (lowered_table recs text i)
   table_stored e₁ e₂ e₃ =
       let a = lowered_all recs (i + 16) from n in
       let p = take (to - from) (drop from text) in
       let la = all_length recs n (i + 16) from in
       let lf = front_length n (to - from) in
-      let f₂ : s₂ ≡ stored s₀ 0 (front n (to - from) ++ a) = next s₀ s₁ s₂ 0 24 (front n (to - from)) a e₁ e₂ (omega arith) (omega arith) in
+      let f₂ : s₂ ≡ stored s₀ 0 (head n (to - from) ++ a) = next s₀ s₁ s₂ 0 24 (head n (to - from)) a e₁ e₂ (omega arith) (omega arith) in
       let f₃ = e₃ ∙ ap (stored s₂ (24 + 16 * n)) (part_in text from (to - from) (omega arith)) in
-      let lb = length-append (front n (to - from)) a in
-      next s₀ s₂ s₃ 0 (24 + 16 * n) (front n (to - from) ++ a) p f₂ f₃ (omega arith) (omega (arith, part_long))
+      let lb = length-append (head n (to - from)) a in
+      next s₀ s₂ s₃ 0 (24 + 16 * n) (head n (to - from) ++ a) p f₂ f₃ (omega arith) (omega (arith, part_long))
       ∙ ap (stored s₀ 0) (front_headed n (to - from) a p part_long ∙ lowered_is recs text i n from to en ef et)
 
   pub table_size : 24 + 16 * n + (to - from) ≡ length (lowered_table recs text i)
@@ -164,7 +139,7 @@ module _ (recs text s₀ s₁ s₂ s₃ : List ℕ) (i n from to : ℕ) (en : n 
       let p = take (to - from) (drop from text) in
       let la = all_length recs n (i + 16) from in
       let lf = front_length n (to - from) in
-      let lb = length-append (front n (to - from)) a in
-      let lc = length-append (front n (to - from) ++ a) p in
-      let e : length ((front n (to - from) ++ a) ++ p) ≡ length (lowered_table recs text i) = ap length (front_headed n (to - from) a p part_long ∙ lowered_is recs text i n from to en ef et) in
+      let lb = length-append (head n (to - from)) a in
+      let lc = length-append (head n (to - from) ++ a) p in
+      let e : length ((head n (to - from) ++ a) ++ p) ≡ length (lowered_table recs text i) = ap length (front_headed n (to - from) a p part_long ∙ lowered_is recs text i n from to en ef et) in
       omega (arith, part_long)

@@ -1,4 +1,5 @@
 -- The main table of a whole one: where its component stands, what is written of it, and the outcome. Assumes nothing.
+use Rattle.std.specs.Prelude.{Some, None}
 use Prim.Native.Nat.{ℕ, zero, suc, ◌+◌, ◌*◌, ◌-◌, ◌≤◌, ◌<◌}
 use native.Mathlib.Omega.{arith}
 use native.Mathlib.Nat.{add-zero}
@@ -9,6 +10,11 @@ use mathlib.Core.Option.{Option, none, some}
 use lib.ListN.{length, take, drop, get_or, length-append, length-drop}
 use lib.Seq.{take_at}
 use borrow.Author.Tests.{le-leb, lt-leb}
+use Rattle.std.specs.Prelude.{Result, Ok, Err}
+use Rattle.refusal.specs.Refused.{number_of as reason_number}
+use Rattle.refusal.specs.declared.Refusal.{Refusal}
+use Rattle.refusal.specs.declared.Reason.{Reason}
+use Rattle.refusal.specs.declared.Reason.TheVariants.{SliceTooShort, NotATable}
 use Rattle.paper.specs.Bytes.{bytes}
 use Rattle.paper.specs.Maybe.{◌>>=◌}
 use Rattle.paper.specs.Answer.{ok, refused, demand}
@@ -23,7 +29,7 @@ use Rattle.paper.specs.Lent.{Outcome, told, written}
 use Rattle.paper.specs.Decoder.{Cursor}
 use Rattle.paper.specs.TableDecoder.{in_table, absent, table_of}
 use Rattle.forms.specs.declared.form.Form.TheVariants.{Table}
-use Rattle.forms.specs.Form.{form_of, number_of, size_of, most_text}
+use Rattle.forms.specs.Form.{form_of, size_of}
 use Rattle.forms.specs.Header.{header_in}
 use Rattle.theorems.proofs.Decoded.Header.{records_length, laid_out_headed}
 use Rattle.theorems.proofs.Decoded.Rows.{Front}
@@ -32,9 +38,7 @@ use Rattle.paper.specs.DecodeAt.{word, cursor, headed}
 use Rattle.theorems.proofs.Laws.DecodeFree.{entries_none, table_of_is}
 use Rattle.memory.specs.Memory.{word_at, stored}
 use Rattle.memory.proofs.Laws.{word_in, stored_front}
-use Rattle.main_table.specs.declared.operation.Answer.TheVariants.{Done, Refused}
 use Rattle.table.specs.Walk.{entries_here}
-use Rattle.table.specs.declared.child.Found.TheVariants.{At, Nothing}
 use Rattle.table.specs.Child.{Holds, ChildAt, FoundIs}
 use Rattle.table.specs.Whole.{is_table_of, store_in}
 use Rattle.main_table.specs.Lower.{lowered_all, text_from, text_to, lowered_table, Lowerable}
@@ -196,10 +200,10 @@ module _ (recs text : List ℕ) (n : ℕ) (T : Tabled recs text n) where
   root : Root recs text n T.store
   root = root_of recs text n T.store T.is
 
-  pub main_nothing : FoundIs recs text 0 n sf_config Nothing → main_of (store_in recs text n) ≡ refused 19 0
+  pub main_nothing : FoundIs recs text 0 n sf_config None → main_of (store_in recs text n) ≡ refused 19 0
   main_nothing F = main_absent (store_in recs text n) T.store T.is (F.told 1 0 T.store root.after root.holds)
 
-  module _ (b : Bytes recs) (j : ℕ) (F : FoundIs recs text 0 n sf_config (At j)) where
+  module _ (b : Bytes recs) (j : ℕ) (F : FoundIs recs text 0 n sf_config (Some j)) where
     child : ChildAt recs text 1 T.store root.after sf_config j
     child = F.told 1 0 T.store root.after root.holds
 
@@ -231,15 +235,18 @@ module _ (recs text : List ℕ) (n : ℕ) (T : Tabled recs text n) where
 
 -- ---- outcomes
 
-pub outcome_refused : (a : Paper.Answer (List ℕ)) (k p : ℕ) (o : List ℕ) → a ≡ refused k p → ◌≡◌ {A = Outcome} (outcome (Refused k p) o) (main_outcome a o)
-unfolding main_outcome told written
-outcome_refused a k p o e = rw e
+abbrev pub refusal : Reason → Result ℕ Refusal
+refusal r = Err (record { reason = r; place = 0 })
 
-pub outcome_done : (a : Paper.Answer (List ℕ)) (t o o' : List ℕ) (r : ℕ) → a ≡ ok t → r ≡ length t → o' ≡ stored o 0 t → length t ≤ length o → ◌≡◌ {A = Outcome} (outcome (Done r) o') (main_outcome a o)
+pub outcome_refused : (a : Paper.Answer (List ℕ)) (r : Reason) (o : List ℕ) → a ≡ refused (reason_number r) 0 → ◌≡◌ {A = Outcome} (outcome (refusal r) o) (main_outcome a o)
+unfolding main_outcome told written
+outcome_refused a r o e = rw e
+
+pub outcome_done : (a : Paper.Answer (List ℕ)) (t o o' : List ℕ) (r : ℕ) → a ≡ ok t → r ≡ length t → o' ≡ stored o 0 t → length t ≤ length o → ◌≡◌ {A = Outcome} (outcome (Ok r) o') (main_outcome a o)
 unfolding main_outcome told written
 outcome_done a t o o' r e l s h = rw (e, l, s, stored_front o t h)
 
-pub main_short : (b o : List ℕ) → length o < 32792 → ◌≡◌ {A = Outcome} (outcome (Refused 8 0) o) (takes_main b o)
+pub main_short : (b o : List ℕ) → length o < 32792 → ◌≡◌ {A = Outcome} (outcome (refusal SliceTooShort) o) (takes_main b o)
 unfolding takes_main main_op demand told written Paper.◌>>=◌
 main_short b o h = rw (lt-leb 32792 (length o) h)
 
@@ -248,9 +255,9 @@ module _ (b o : List ℕ) (h : 32792 ≤ length o) where
   unfolding takes_main main_outcome main_op main_of demand Paper.◌>>=◌
   main_long = rw (le-leb 32792 (length o) h)
 
-  pub main_no_table : table_of b ≡ none → ◌≡◌ {A = Outcome} (outcome (Refused 10 0) o) (takes_main b o)
+  pub main_no_table : table_of b ≡ none → ◌≡◌ {A = Outcome} (outcome (refusal NotATable) o) (takes_main b o)
   unfolding main_of or_refused Paper.◌>>=◌
-  main_no_table e = outcome_refused (main_of (table_of b)) 10 0 o (rw e) ∙ main_long
+  main_no_table e = outcome_refused (main_of (table_of b)) NotATable o (rw e) ∙ main_long
 
 pub not_table : (b : List ℕ) → is_table_of b ≡ false → table_of b ≡ none
 unfolding is_table_of absent
@@ -261,7 +268,7 @@ not_table b e = go (table_of b) refl e
     go (some s) q f = let z : ◌≡◌ {A = ℕ} 0 1 = cc in absurd (omega arith)
 
 pub no_header : (b : List ℕ) → header_in Table b ≡ none → table_of b ≡ none
-unfolding header_in number_of size_of most_text form_of in_table ◌>>=◌
+unfolding header_in size_of form_of in_table ◌>>=◌
 no_header b e = rw (table_of_is b, e)
 
 -- a lowered table has at most 32,792 bytes

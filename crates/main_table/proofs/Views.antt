@@ -23,7 +23,7 @@ use Rattle.paper.specs.DecodeFrom.{basic_from, entries_from, entry_value}
 use Rattle.table.specs.Walk.{value_here, entries_here}
 use Rattle.table.specs.Child.{Holds}
 use Rattle.forms.specs.declared.form.Form.TheVariants.{Table}
-use Rattle.forms.specs.Form.{form_of, size_of, most_text}
+use Rattle.forms.specs.Form.{form_of, size_of}
 use Rattle.forms.specs.Header.{records_of, text_of, Sized}
 use Rattle.table.specs.Whole.{is_table_of, store_in}
 use Rattle.main_table.specs.Main.{Tabled}
@@ -79,7 +79,7 @@ root_of recs text n s e =
 -- ---- bytes that are a table
 
 pub tabled_of : (b : List ℕ) (n : ℕ) → Sized Table b n → is_table_of b ≡ true → Tabled (records_of Table b) (text_of b) n
-unfolding is_table_of absent size_of most_text form_of in_table
+unfolding is_table_of absent size_of form_of in_table
 tabled_of b n S e = go (table_of b) refl e
   where
     go : (t : Option Store) → table_of b ≡ t → not (absent t) ≡ true → Tabled (records_of Table b) (text_of b) n

@@ -1,24 +1,19 @@
 -- The main operation: what the code answers as the paper's answer, and what it must be. Assumes nothing.
-use Rattle.std.specs.Prelude.{ℕ, ◌≤◌, ◌≡◌, List, [], length}
+use Rattle.std.specs.Prelude.{ℕ, ◌≤◌, ◌≡◌, List, [], length, Result}
 use Rattle.std.proofs.Math.Option.{Option, some}
-use Rattle.paper.specs.Answer.{ok, refused, ◌>>=◌}
+use Rattle.paper.specs.Answer.{ok, ◌>>=◌}
 use Rattle.paper.specs.Answer as Paper
 use Rattle.paper.specs.Store.{Store}
 use Rattle.paper.specs.Layout.{table}
 use Rattle.paper.specs.Meaning.{main}
 use Rattle.paper.specs.Operations.{or_refused}
 use Rattle.paper.specs.Lent.{Outcome, told, written}
-use Rattle.main_table.specs.declared.operation.Answer.{Answer}
-use Rattle.main_table.specs.declared.operation.Answer.TheVariants.{Done, Refused}
+use Rattle.refusal.specs.Refused.{answered}
+use Rattle.refusal.specs.declared.Refusal.{Refusal}
 use Rattle.table.specs.Whole.{store_in}
 
--- the paper's number and values for each case
-abbrev pub answered : Answer → Paper.Answer ℕ
-answered (Done n) = ok n
-answered (Refused n p) = refused n p
-
 -- the answer and the output, as one outcome
-abbrev pub outcome : Answer → List ℕ → Outcome
+abbrev pub outcome : Result ℕ Refusal → List ℕ → Outcome
 outcome r output = record { answer = answered r; output = output; works = [] }
 
 -- the main table of a store that was found, or its refusal

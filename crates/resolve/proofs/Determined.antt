@@ -5,22 +5,23 @@ use mathlib.Core.Path.{◌≡◌, ap}
 use mathlib.Core.List.{List}
 use Rattle.paper.specs.Lent.{Outcome}
 use Rattle.paper.specs.Determines.{Determines, ◌&◌}
-use Rattle.run.specs.declared.operation.Answer.{Answer}
-use Rattle.run.proofs.Determined.{answered_one}
+use Rattle.std.specs.Prelude.{Result}
+use Rattle.refusal.specs.declared.Refusal.{Refusal}
+use Rattle.refusal.proofs.One.{answered_one}
 use Rattle.resolve.specs.Resolves.{outcome}
 use Rattle.resolve.proofs.resolve.Reads as Resolve
 
 pub record Returned : Type 0 where
-  pub answer : Answer
+  pub answer : Result ℕ Refusal
   pub output : List ℕ
   pub work₁ : List ℕ
   pub work₂ : List ℕ
   pub work₃ : List ℕ
 
-abbrev pub returned : Answer → List ℕ → List ℕ → List ℕ → List ℕ → Returned
+abbrev pub returned : Result ℕ Refusal → List ℕ → List ℕ → List ℕ → List ℕ → Returned
 returned r o u v w = record { answer = r; output = o; work₁ = u; work₂ = v; work₃ = w }
 
-pub one : (r r' : Answer) (o o' u u' v v' w w' : List ℕ) → outcome r o u v w ≡ outcome r' o' u' v' w'
+pub one : (r r' : Result ℕ Refusal) (o o' u u' v v' w w' : List ℕ) → outcome r o u v w ≡ outcome r' o' u' v' w'
     → returned r o u v w ≡ returned r' o' u' v' w'
 one r r' o o' u u' v v' w w' e =
     let answer = answered_one r r' (ap (λ (x : Outcome). x.answer) e) in

@@ -1,5 +1,5 @@
 -- "Resolve answers as translate, run over the empty table, then main", and what becomes of the lent slices on the way. Assumes nothing.
-use Prim.Native.Nat.{ℕ, ◌+◌, ◌-◌, ◌≤◌, ◌<◌}
+use Prim.Native.Nat.{ℕ, ◌+◌, ◌-◌, ◌≤◌}
 use native.Mathlib.Omega.{arith}
 use mathlib.Core.Path.{◌≡◌, refl, sym, ap, ◌∙◌}
 use mathlib.Core.List.{List, [], ◌∷◌, ◌++◌}
@@ -20,12 +20,12 @@ use Rattle.theorems.proofs.Laws.Wiped.{Other, cleared_wiped, high_other, wiped_t
 use Rattle.theorems.proofs.Legal.Read.{translate_well, translate_numbers}
 use Rattle.theorems.proofs.Decoded.StepList.{steps_length}
 use Rattle.memory.specs.Memory.{stored}
-use Rattle.memory.proofs.Laws.{clear_wiped}
-use Rattle.translate.specs.Answers as T
-use Rattle.translate.specs.declared.answer.Answer.{Answer as Translated}
-use Rattle.translate.specs.declared.answer.Answer.TheVariants.{Done as Listed, Refused as Unlisted}
-use Rattle.run.specs.declared.operation.Answer.{Answer as Ran}
-use Rattle.run.specs.declared.operation.Answer.TheVariants.{Refused as Not}
+use mathlib.Core.Logic.{⊎_elim}
+use Rattle.memory.proofs.Laws.{fit, clear_wiped}
+use Rattle.std.specs.Prelude.{Result, Ok, Err}
+use Rattle.refusal.specs.Refused.{number_of, answered}
+use Rattle.refusal.specs.declared.Refusal.{Refusal}
+use Rattle.refusal.specs.declared.Reason.TheVariants.{SliceTooShort}
 use Rattle.run.specs.Runs as R
 use Rattle.run.proofs.Ending.{rest_is}
 use Rattle.run.proofs.Choosing.{main_gives}
@@ -70,7 +70,7 @@ unfolding all
 empty_bytes = refl
 
 -- its bytes, as the code has them
-pub empty_is : (list o w₁ w₂ : List ℕ) (r : Ran) (o' w₁' w₂' : List ℕ)
+pub empty_is : (list o w₁ w₂ : List ℕ) (r : Result ℕ Refusal) (o' w₁' w₂' : List ℕ)
     → ◌≡◌ {A = Outcome} (R.outcome r o' w₁' w₂') (R.runs_main list (2 ∷ 0 ∷ 0 ∷ 0 ∷ 24 ∷ 0 ∷ 0 ∷ 0 ∷ 0 ∷ 0 ∷ 0 ∷ 0 ∷ 24 ∷ 0 ∷ 0 ∷ 0 ∷ 0 ∷ 0 ∷ 0 ∷ 0 ∷ 24 ∷ 0 ∷ 0 ∷ 0 ∷ []) o w₁ w₂)
     → ◌≡◌ {A = Outcome} (R.outcome r o' w₁' w₂') (R.runs_main list (table ∅) o w₁ w₂)
 empty_is list o w₁ w₂ r o' w₁' w₂' e = e ∙ ap (λ t. R.runs_main list t o w₁ w₂) empty_bytes
@@ -85,12 +85,12 @@ pub record Listing (source w₃ w₃' : List ℕ) (n : ℕ) : Type 0 where
   pub behind : drop 65536 w₃' ≡ drop 65536 w₃
   pub inside : n ≤ length w₃'
 
-module _ (source w₁ w₃ : List ℕ) (l₁ : 65536 ≤ length w₁) (l₃ : 65536 ≤ length w₃) (r : Translated) (w₁' w₃' : List ℕ)
-    (met : ◌≡◌ {A = Outcome} (record { answer = T.answered r; output = w₃'; works = w₁' ∷ [] }) (translates source w₃ w₁)) where
+module _ (source w₁ w₃ : List ℕ) (l₁ : 65536 ≤ length w₁) (l₃ : 65536 ≤ length w₃) (r : Result ℕ Refusal) (w₁' w₃' : List ℕ)
+    (met : ◌≡◌ {A = Outcome} (record { answer = answered r; output = w₃'; works = w₁' ∷ [] }) (translates source w₃ w₁)) where
   op_is : translate_op source (length w₃) (length w₁) ≡ translate source
   op_is = lent_translate source (length w₃) (length w₁) (omega (arith, l₃)) l₁
 
-  told_is : T.answered r ≡ told (translate source)
+  told_is : answered r ≡ told (translate source)
   unfolding translates
   told_is = ap (λ (o : Outcome). o.answer) met ∙ ap told op_is
 
@@ -105,7 +105,7 @@ module _ (source w₁ w₃ : List ℕ) (l₁ : 65536 ≤ length w₁) (l₃ : 65
       head : {a b : List ℕ} → ◌≡◌ {A = List (List ℕ)} (a ∷ []) (b ∷ []) → a ≡ b
       head e = cc
 
-  pub listing : (n : ℕ) → r ≡ Listed n → Listing source w₃ w₃' n
+  pub listing : (n : ℕ) → r ≡ Ok n → Listing source w₃ w₃' n
   unfolding told written
   listing n e = go (translate source) refl
     where
@@ -115,9 +115,9 @@ module _ (source w₁ w₃ : List ℕ) (l₁ : 65536 ≤ length w₁) (l₃ : 65
           ap (λ n. drop n (x ++ drop (length x) w)) k ∙ drop-append-add x (drop (length x) w) (65536 - length x) ∙ drop-drop (65536 - length x) (length x) w ∙ ap (λ n. drop n w) (sym k)
 
       go : (a : Answer (List ℕ)) → translate source ≡ a → Listing source w₃ w₃' n
-      go (refused k p) q = absurd (let z : ◌≡◌ {A = Answer ℕ} (ok n) (refused k p) = sym (ap T.answered e) ∙ told_is ∙ ap told q in let y : ◌≡◌ {A = ℕ} 0 1 = cc in omega arith)
+      go (refused k p) q = absurd (let z : ◌≡◌ {A = Answer ℕ} (ok n) (refused k p) = sym (ap answered e) ∙ told_is ∙ ap told q in let y : ◌≡◌ {A = ℕ} 0 1 = cc in omega arith)
       go (ok list) q =
-          let z : ◌≡◌ {A = Answer ℕ} (ok n) (ok (length list)) = sym (ap T.answered e) ∙ told_is ∙ ap told q in
+          let z : ◌≡◌ {A = Answer ℕ} (ok n) (ok (length list)) = sym (ap answered e) ∙ told_is ∙ ap told q in
           let m : length list ≡ n = cc in
           let t = (translate_well source list q).is_listed in
           let f : length list ≤ 53272 = omega (arith, steps_length t, t.listed.count, t.listed.text) in
@@ -130,27 +130,26 @@ module _ (source w₁ w₃ : List ℕ) (l₁ : 65536 ≤ length w₁) (l₃ : 65
             inside = rw w (rw (length-append list (drop (length list) w₃)) (omega (arith, m)));
           }
 
-  pub unlisted : (k p : ℕ) → r ≡ Unlisted k p → (translate source ≡ refused k p) × (w₃' ≡ w₃)
+  pub unlisted : (f : Refusal) → r ≡ Err f → (translate source ≡ refused (number_of f.reason) f.place) × (w₃' ≡ w₃)
   unfolding told written
-  unlisted k p e = go (translate source) refl
+  unlisted f e = go (translate source) refl
     where
-      go : (a : Answer (List ℕ)) → translate source ≡ a → (translate source ≡ refused k p) × (w₃' ≡ w₃)
-      go (ok list) q = absurd (let z : ◌≡◌ {A = Answer ℕ} (refused k p) (ok (length list)) = sym (ap T.answered e) ∙ told_is ∙ ap told q in let y : ◌≡◌ {A = ℕ} 0 1 = cc in omega arith)
+      go : (a : Answer (List ℕ)) → translate source ≡ a → (translate source ≡ refused (number_of f.reason) f.place) × (w₃' ≡ w₃)
+      go (ok list) q = absurd (let z : ◌≡◌ {A = Answer ℕ} (refused (number_of f.reason) f.place) (ok (length list)) = sym (ap answered e) ∙ told_is ∙ ap told q in let y : ◌≡◌ {A = ℕ} 0 1 = cc in omega arith)
       go (refused j i) q =
-          let z : ◌≡◌ {A = Answer ℕ} (refused k p) (refused j i) = sym (ap T.answered e) ∙ told_is ∙ ap told q in
-          let a : ◌≡◌ {A = Answer (List ℕ)} (refused j i) (refused k p) = cc in
+          let z : ◌≡◌ {A = Answer ℕ} (refused (number_of f.reason) f.place) (refused j i) = sym (ap answered e) ∙ told_is ∙ ap told q in
+          let a : ◌≡◌ {A = Answer (List ℕ)} (refused j i) (refused (number_of f.reason) f.place) = cc in
           (q ∙ a, third_is ∙ ap (λ x. written x w₃) q)
 
 -- ---- the ways through `in_turn`
 
 module _ (source o w₁ w₂ w₃ : List ℕ) (l : 32792 ≤ length o) (l₁ : 65536 ≤ length w₁) (l₂ : 65536 ≤ length w₂) where
-  pub turned : (w₁' w₃' : List ℕ) (n : ℕ) → w₁' ≡ wiped w₁ → Listing source w₃ w₃' n → (r : Ran) (o' w₁'' w₂' : List ℕ)
-      → ◌≡◌ {A = Outcome} (R.outcome r o' w₁'' w₂') (R.runs_main (take (n - 0) w₃') (table ∅) o w₁' w₂) → Resolving source o w₁ w₂ w₃ r o' w₁'' w₂' w₃'
+  pub turned : (w₁' w₃' : List ℕ) (n : ℕ) → w₁' ≡ wiped w₁ → Listing source w₃ w₃' n → (r : Result ℕ Refusal) (o' w₁'' w₂' : List ℕ)
+      → ◌≡◌ {A = Outcome} (R.outcome r o' w₁'' w₂') (R.runs_main (take n w₃') (table ∅) o w₁' w₂) → Resolving source o w₁ w₂ w₃ r o' w₁'' w₂' w₃'
   unfolding R.runs_main ◌>>=◌
   turned w₁' w₃' n e L r o' w₁'' w₂' met =
-      let whole : n - 0 ≡ n = omega arith in
       let long : 65536 ≤ length w₁' = rw e (wiped_long w₁ l₁) in
-      let same : R.run_main_op (take (n - 0) w₃') (table ∅) (length o) (length w₁') (length w₂) ≡ resolve source = lent_main (take (n - 0) w₃') (table ∅) (length o) (length w₁') (length w₂) l long l₂ ∙ ap meant (ap (λ k. take k w₃') whole ∙ L.sent) ∙ sym (in_turn source ∙ ap (λ a. a >>= meant) L.is) in
+      let same : R.run_main_op (take n w₃') (table ∅) (length o) (length w₁') (length w₂) ≡ resolve source = lent_main (take n w₃') (table ∅) (length o) (length w₁') (length w₂) l long l₂ ∙ ap meant L.sent ∙ sym (in_turn source ∙ ap (λ a. a >>= meant) L.is) in
       let works = ap (λ (x : Outcome). x.works) met in
       record {
         answer = ap (λ (x : Outcome). x.answer) met ∙ ap told same;
@@ -166,41 +165,46 @@ module _ (source o w₁ w₂ w₃ : List ℕ) (l : 32792 ≤ length o) (l₁ : 6
       second_of : {a b c d : List ℕ} → ◌≡◌ {A = List (List ℕ)} (a ∷ b ∷ []) (c ∷ d ∷ []) → b ≡ d
       second_of e = cc
 
-  pub not_turned : (w₁' w₂' w₃' : List ℕ) (k p : ℕ) → w₁' ≡ wiped w₁ → translate source ≡ refused k p → w₃' ≡ w₃ → w₂' ≡ stored w₂ 0 (zeros 65536) → Resolving source o w₁ w₂ w₃ (Not k p) o w₁' w₂' w₃'
+  pub not_turned : (w₁' w₂' w₃' : List ℕ) (f : Refusal) → w₁' ≡ wiped w₁ → translate source ≡ refused (number_of f.reason) f.place → w₃' ≡ w₃ → w₂' ≡ stored w₂ 0 (zeros 65536) → Resolving source o w₁ w₂ w₃ (Err f) o w₁' w₂' w₃'
   unfolding told written ◌>>=◌
-  not_turned w₁' w₂' w₃' k p e q f g =
-      let same : resolve source ≡ refused k p = in_turn source ∙ ap (λ a. a >>= meant) q in
-      record { answer = sym (ap told same); output_is = sym (ap (λ a. written a o) same); first = e; second = g ∙ clear_wiped w₂ l₂; behind = ap (drop 65536) f }
+  not_turned w₁' w₂' w₃' f e q h g =
+      let same : resolve source ≡ refused (number_of f.reason) f.place = in_turn source ∙ ap (λ a. a >>= meant) q in
+      record { answer = sym (ap told same); output_is = sym (ap (λ a. written a o) same); first = e; second = g ∙ clear_wiped w₂ l₂; behind = ap (drop 65536) h }
 
 -- ---- and through `resolve`
 
+-- 8 at 0
+abbrev pub eight : Result ℕ Refusal
+eight = Err (record { reason = SliceTooShort; place = 0 })
+
 module _ (source o w₁ w₂ w₃ : List ℕ) where
-  pub output_short : length o < 32792 → ◌≡◌ {A = Outcome} (outcome (Not 8 0) o w₁ w₂ w₃) (resolves source o w₁ w₂ w₃)
+  abbrev pub Eight : Type 0
+  Eight = ◌≡◌ {A = Outcome} (outcome eight o w₁ w₂ w₃) (resolves source o w₁ w₂ w₃)
+
+  pub short : (32792 ≤ length o → 65536 ≤ length w₁ → 65536 ≤ length w₂ → 65536 ≤ length w₃ → ⊥) → Eight
   unfolding resolves resolve_op told written cleared demand ◌>>=◌
-  output_short h = rw (lt-leb 32792 (length o) h)
+  short none =
+      ⊎_elim
+      (λ l.
+      ⊎_elim
+      (λ l₁.
+      ⊎_elim
+      (λ l₂. ⊎_elim (λ l₃. absurd (none l l₁ l₂ l₃)) (λ h. rw (le-leb _ _ l, le-leb _ _ l₁, le-leb _ _ l₂, lt-leb _ _ h)) (fit 65536 (length w₃)))
+      (λ h. rw (le-leb _ _ l, le-leb _ _ l₁, lt-leb _ _ h))
+      (fit 65536 (length w₂)))
+      (λ h. rw (le-leb _ _ l, lt-leb _ _ h))
+      (fit 65536 (length w₁)))
+      (λ h. rw (lt-leb _ _ h))
+      (fit 32792 (length o))
 
-  module _ (l : 32792 ≤ length o) where
-    pub first_short : length w₁ < 65536 → ◌≡◌ {A = Outcome} (outcome (Not 8 0) o w₁ w₂ w₃) (resolves source o w₁ w₂ w₃)
-    unfolding resolves resolve_op told written cleared demand ◌>>=◌
-    first_short h = rw (le-leb 32792 (length o) l, lt-leb 65536 (length w₁) h)
-
-    module _ (l₁ : 65536 ≤ length w₁) where
-      pub second_short : length w₂ < 65536 → ◌≡◌ {A = Outcome} (outcome (Not 8 0) o w₁ w₂ w₃) (resolves source o w₁ w₂ w₃)
-      unfolding resolves resolve_op told written cleared demand ◌>>=◌
-      second_short h = rw (le-leb 32792 (length o) l, le-leb 65536 (length w₁) l₁, lt-leb 65536 (length w₂) h)
-
-      module _ (l₂ : 65536 ≤ length w₂) where
-        pub third_short : length w₃ < 65536 → ◌≡◌ {A = Outcome} (outcome (Not 8 0) o w₁ w₂ w₃) (resolves source o w₁ w₂ w₃)
-        unfolding resolves resolve_op told written cleared demand ◌>>=◌
-        third_short h = rw (le-leb 32792 (length o) l, le-leb 65536 (length w₁) l₁, le-leb 65536 (length w₂) l₂, lt-leb 65536 (length w₃) h)
-
-        pub all_resolved : 65536 ≤ length w₃ → (r : Ran) (o' w₁' w₂' w₃' w₃'' : List ℕ) → Resolving source o w₁ w₂ w₃ r o' w₁' w₂' w₃' → length w₃' ≡ length w₃ → w₃'' ≡ stored w₃' 0 (zeros 65536)
-            → ◌≡◌ {A = Outcome} (outcome r o' w₁' w₂' w₃'') (resolves source o w₁ w₂ w₃)
-        unfolding resolves wiped
-        all_resolved l₃ r o' w₁' w₂' w₃' w₃'' R kept e =
-            let wipes : (w : List ℕ) → wiped w ≡ cleared (resolve source) w = λ w. sym (cleared_wiped (resolve source) w (resolve_gives source)) in
-            let f₁ : w₁' ≡ cleared (resolve source) w₁ = R.first ∙ wipes w₁ in
-            let f₂ : w₂' ≡ cleared (resolve source) w₂ = R.second ∙ wipes w₂ in
-            let f₃ : w₃'' ≡ cleared (resolve source) w₃ = e ∙ clear_wiped w₃' (omega (arith, kept)) ∙ ap (λ x. zeros 65536 ++ x) R.behind ∙ wipes w₃ in
-            (λ i. record { answer = R.answer i; output = R.output_is i; works = f₁ i ∷ f₂ i ∷ f₃ i ∷ [] })
-            ∙ ap (λ a. record { answer = told a; output = written a o; works = cleared a w₁ ∷ cleared a w₂ ∷ cleared a w₃ ∷ [] }) (sym (lent_resolve source (length o) (length w₁) (length w₂) (length w₃) l l₁ l₂ l₃))
+  module _ (l : 32792 ≤ length o) (l₁ : 65536 ≤ length w₁) (l₂ : 65536 ≤ length w₂) where
+    pub all_resolved : 65536 ≤ length w₃ → (r : Result ℕ Refusal) (o' w₁' w₂' w₃' w₃'' : List ℕ) → Resolving source o w₁ w₂ w₃ r o' w₁' w₂' w₃' → length w₃' ≡ length w₃ → w₃'' ≡ stored w₃' 0 (zeros 65536)
+        → ◌≡◌ {A = Outcome} (outcome r o' w₁' w₂' w₃'') (resolves source o w₁ w₂ w₃)
+    unfolding resolves wiped
+    all_resolved l₃ r o' w₁' w₂' w₃' w₃'' R kept e =
+        let wipes : (w : List ℕ) → wiped w ≡ cleared (resolve source) w = λ w. sym (cleared_wiped (resolve source) w (resolve_gives source)) in
+        let f₁ : w₁' ≡ cleared (resolve source) w₁ = R.first ∙ wipes w₁ in
+        let f₂ : w₂' ≡ cleared (resolve source) w₂ = R.second ∙ wipes w₂ in
+        let f₃ : w₃'' ≡ cleared (resolve source) w₃ = e ∙ clear_wiped w₃' (omega (arith, kept)) ∙ ap (λ x. zeros 65536 ++ x) R.behind ∙ wipes w₃ in
+        (λ i. record { answer = R.answer i; output = R.output_is i; works = f₁ i ∷ f₂ i ∷ f₃ i ∷ [] })
+        ∙ ap (λ a. record { answer = told a; output = written a o; works = cleared a w₁ ∷ cleared a w₂ ∷ cleared a w₃ ∷ [] }) (sym (lent_resolve source (length o) (length w₁) (length w₂) (length w₃) l l₁ l₂ l₃))

@@ -10,7 +10,7 @@ ghost use Rattle.run.specs.Runs as Run;
 ghost use Rattle.resolve.specs.Resolves.{outcome, Resolving};
 
 use memory::clear;
-pub use run::Answer;
+use refusal::{Reason, Refusal};
 use run::run_main;
 use translate::translate;
 
@@ -21,11 +21,16 @@ const OUTPUT: usize = 32792;
 
 const WORK: usize = 65536;
 
-fn over_the_empty(list: &[u8], out: &mut [u8], work1: &mut [u8], work2: &mut [u8]) -> Answer
-    ensures { ◌≡◌ {A = Outcome} (Run.outcome result out.new work1.new work2.new) (Run.runs_main list.now (table ∅) out.old work1.old work2.old) }
+fn over_the_empty(
+    list: &[u8],
+    out: &mut [u8],
+    work1: &mut [u8],
+    work2: &mut [u8],
+) -> Result<usize, Refusal>
+    ensures { ◌≡◌ {A = Outcome} (Run.outcome result out.new work1.new work2.new)
+        (Run.runs_main list.now (table ∅) out.old work1.old work2.old) }
 {
-    let start = EMPTY;
-    run_main(list, &start, out, work1, work2)
+    run_main(list, &EMPTY, out, work1, work2)
 }
 
 // The step list stands in the third slice: there is no room for a whole table beside it.
@@ -35,15 +40,16 @@ fn in_turn(
     work1: &mut [u8],
     work2: &mut [u8],
     work3: &mut [u8],
-) -> Answer
-    requires { (32792 ≤ length out.old) × (65536 ≤ length work1.old) × (65536 ≤ length work2.old) × (65536 ≤ length work3.old) }
+) -> Result<usize, Refusal>
+    requires { (32792 ≤ length out.old) × (65536 ≤ length work1.old) × (65536 ≤ length work2.old)
+        × (65536 ≤ length work3.old) }
     ensures { Resolving src.now out.old work1.old work2.old work3.old result out.new work1.new work2.new work3.new }
 {
     match translate(src, work3, work1) {
-        translate::Answer::Done(n) => over_the_empty(&work3[0..n], out, work1, work2),
-        translate::Answer::Refused(number, place) => {
+        Ok(n) => over_the_empty(&work3[..n], out, work1, work2),
+        Err(refusal) => {
             clear(work2);
-            Answer::Refused(number, place)
+            Err(refusal)
         }
     }
 }
@@ -54,20 +60,15 @@ pub fn resolve(
     work1: &mut [u8],
     work2: &mut [u8],
     work3: &mut [u8],
-) -> Answer
-    ensures { ◌≡◌ {A = Outcome} (outcome result out.new work1.new work2.new work3.new) (resolves src.now out.old work1.old work2.old work3.old) }
+) -> Result<usize, Refusal>
+    ensures { ◌≡◌ {A = Outcome} (outcome result out.new work1.new work2.new work3.new)
+        (resolves src.now out.old work1.old work2.old work3.old) }
 {
-    if out.len() < OUTPUT {
-        return Answer::Refused(8, 0);
-    }
-    if work1.len() < WORK {
-        return Answer::Refused(8, 0);
-    }
-    if work2.len() < WORK {
-        return Answer::Refused(8, 0);
-    }
-    if work3.len() < WORK {
-        return Answer::Refused(8, 0);
+    if out.len() < OUTPUT || work1.len() < WORK || work2.len() < WORK || work3.len() < WORK {
+        return Err(Refusal {
+            reason: Reason::SliceTooShort,
+            place: 0,
+        });
     }
     let answer = in_turn(src, out, work1, work2, work3);
     clear(work3);

@@ -8,6 +8,8 @@ use mathlib.Core.List.{List}
 use Rattle.paper.specs.DecodeAt.{word}
 use Rattle.memory.proofs.Laws.{word_in}
 use Rattle.main_table.specs.Lower.{Lowerable, text_from, text_to}
+use Rattle.memory.specs.Memory.{stored}
+use Rattle.forms.proofs.Puts.{table_header}
 use Rattle.main_table.proofs.Lowers.{table_stored, table_size}
 use Rattle.main_table.proofs.lower.lower_table.Goals as goal
 
@@ -29,26 +31,22 @@ places recs text i m from to L e f g =
 pub overflow_sub-n : goal.overflow_sub-n
 overflow_sub-n c = omega (arith, c.requires.0.some, (c.span_at-n.ensures.0 ∙ word_in 2 _ _ (omega (arith, c.requires.0.within))))
 
-pub text_start-from-requires : goal.text_start-from-requires
-text_start-from-requires c = omega (arith, c.requires.0.within)
-
 pub text_end-requires : goal.text_end-requires
 text_end-requires c = λ l. let L = c.requires.0 in let e = (c.span_at-n.ensures.0 ∙ word_in 2 _ _ (omega (arith, c.requires.0.within))) in rw e (L.next (rw e at l))
 
 pub overflow_sub-size : goal.overflow_sub-size
-overflow_sub-size c = let P = places c.args.recs.now c.args.text.now c.args.i c.span_at-n.result c.text_start-from.result c.text_end.result c.requires.0 (c.span_at-n.ensures.0 ∙ word_in 2 _ _ (omega (arith, c.requires.0.within))) c.text_start-from.ensures c.text_end.ensures in omega arith
+overflow_sub-size c = let P = places c.args.body.records.now c.args.body.text.now c.args.i c.span_at-n.result c.text_start-from.result c.text_end.result c.requires.0 (c.span_at-n.ensures.0 ∙ word_in 2 _ _ (omega (arith, c.requires.0.within))) c.text_start-from.ensures c.text_end.ensures in omega arith
 
-pub put_header-requires : goal.put_header-requires
-put_header-requires c = let P = places c.args.recs.now c.args.text.now c.args.i c.span_at-n.result c.text_start-from.result c.text_end.result c.requires.0 (c.span_at-n.ensures.0 ∙ word_in 2 _ _ (omega (arith, c.requires.0.within))) c.text_start-from.ensures c.text_end.ensures in (P.few, omega arith, omega (arith, c.requires.1))
-
-pub overflow_cast-from : goal.overflow_cast-from
-overflow_cast-from c = let P = places c.args.recs.now c.args.text.now c.args.i c.span_at-n.result c.text_start-from.result c.text_end.result c.requires.0 (c.span_at-n.ensures.0 ∙ word_in 2 _ _ (omega (arith, c.requires.0.within))) c.text_start-from.ensures c.text_end.ensures in omega arith
+pub overflow_cast-size : goal.overflow_cast-size
+overflow_cast-size c = let P = places c.args.body.records.now c.args.body.text.now c.args.i c.span_at-n.result c.text_start-from.result c.text_end.result c.requires.0 (c.span_at-n.ensures.0 ∙ word_in 2 _ _ (omega (arith, c.requires.0.within))) c.text_start-from.ensures c.text_end.ensures in omega (arith, P.within, P.short)
 
 pub lower_rows-requires : goal.lower_rows-requires
-lower_rows-requires c = let P = places c.args.recs.now c.args.text.now c.args.i c.span_at-n.result c.text_start-from.result c.text_end.result c.requires.0 (c.span_at-n.ensures.0 ∙ word_in 2 _ _ (omega (arith, c.requires.0.within))) c.text_start-from.ensures c.text_end.ensures in (omega (arith, c.requires.0.within, (c.span_at-n.ensures.0 ∙ word_in 2 _ _ (omega (arith, c.requires.0.within)))), omega (arith, c.requires.1, c.put_header.auto.out))
+lower_rows-requires c = let P = places c.args.body.records.now c.args.body.text.now c.args.i c.span_at-n.result c.text_start-from.result c.text_end.result c.requires.0 (c.span_at-n.ensures.0 ∙ word_in 2 _ _ (omega (arith, c.requires.0.within))) c.text_start-from.ensures c.text_end.ensures in (omega (arith, c.requires.0.within, (c.span_at-n.ensures.0 ∙ word_in 2 _ _ (omega (arith, c.requires.0.within)))), omega (arith, c.requires.1, c.put_header.auto.out))
 
 pub overflow_add-result : goal.overflow_add-result
-overflow_add-result c = let P = places c.args.recs.now c.args.text.now c.args.i c.span_at-n.result c.text_start-from.result c.text_end.result c.requires.0 (c.span_at-n.ensures.0 ∙ word_in 2 _ _ (omega (arith, c.requires.0.within))) c.text_start-from.ensures c.text_end.ensures in omega arith
+overflow_add-result c = let P = places c.args.body.records.now c.args.body.text.now c.args.i c.span_at-n.result c.text_start-from.result c.text_end.result c.requires.0 (c.span_at-n.ensures.0 ∙ word_in 2 _ _ (omega (arith, c.requires.0.within))) c.text_start-from.ensures c.text_end.ensures in omega arith
 
 pub returns : goal.returns
-returns c = let P = places c.args.recs.now c.args.text.now c.args.i c.span_at-n.result c.text_start-from.result c.text_end.result c.requires.0 (c.span_at-n.ensures.0 ∙ word_in 2 _ _ (omega (arith, c.requires.0.within))) c.text_start-from.ensures c.text_end.ensures in (table_stored c.args.recs.now c.args.text.now c.args.out.now _ _ _ c.args.i (c.span_at-n.result - 1) c.text_start-from.result c.text_end.result P.number P.start P.end P.on P.within P.short P.few c.requires.1 c.put_header.ensures c.lower_rows.ensures (rw c.part.ensures at c.copy.ensures), table_size c.args.recs.now c.args.text.now c.args.out.now c.args.out.now c.args.out.now c.args.out.now c.args.i (c.span_at-n.result - 1) c.text_start-from.result c.text_end.result P.number P.start P.end P.on P.within P.short P.few c.requires.1)
+returns c =
+    let P = places c.args.body.records.now c.args.body.text.now c.args.i c.span_at-n.result c.text_start-from.result c.text_end.result c.requires.0 (c.span_at-n.ensures.0 ∙ word_in 2 _ _ (omega (arith, c.requires.0.within))) c.text_start-from.ensures c.text_end.ensures in
+    record { written = table_stored c.args.body.records.now c.args.body.text.now c.args.out.now _ _ _ c.args.i (c.span_at-n.result - 1) c.text_start-from.result c.text_end.result P.number P.start P.end P.on P.within P.short P.few c.requires.1 (c.put_header.ensures ∙ ap (stored c.args.out.now 0) (table_header _ _)) c.lower_rows.ensures (rw c.part.ensures at c.copy.ensures); size = table_size c.args.body.records.now c.args.body.text.now c.args.out.now c.args.out.now c.args.out.now c.args.out.now c.args.i (c.span_at-n.result - 1) c.text_start-from.result c.text_end.result P.number P.start P.end P.on P.within P.short P.few c.requires.1 }

@@ -1,12 +1,13 @@
 -- `main_table::lower::moved_value` meets its contract. Assumes nothing.
-use Rattle.main_table.proofs.Lowers.{value_low, value_high, value_text}
+use mathlib.Core.Path.{sym, ◌∙◌}
+use Rattle.paper.specs.Bytes.{when◌then◌else◌}
+use Rattle.main_table.specs.Lower.{moved_value}
 use Rattle.main_table.proofs.lower.moved_value.Goals as goal
 
-pub returns-then-kind-lt4 : goal.returns-then-kind-lt4
-returns-then-kind-lt4 c = value_low c.args.from c.args.kind c.args.value c.if-kind-lt4.true
+pub returns-then-has_text : goal.returns-then-has_text
+unfolding moved_value when◌then◌else◌
+returns-then-has_text c = rw (sym c.has_text.ensures ∙ c.if-has_text.true) (rw c.from.ensures at c.saturating_sub.ensures)
 
-pub returns-then-kind-gt6 : goal.returns-then-kind-gt6
-returns-then-kind-gt6 c = value_high c.args.from c.args.kind c.args.value c.if-kind-lt4.false c.if-kind-gt6.true
-
-pub returns : goal.returns
-returns c = value_text c.args.from c.args.kind c.args.value c.less.result c.if-kind-lt4.false c.if-kind-gt6.false c.less.ensures
+pub returns-else-has_text : goal.returns-else-has_text
+unfolding moved_value when◌then◌else◌
+returns-else-has_text c = rw (sym c.has_text.ensures ∙ c.if-has_text.false)

@@ -5,8 +5,5 @@ use Rattle.memory.proofs.Laws.{word_in}
 use Rattle.main_table.proofs.Lowers.{from_is}
 use Rattle.main_table.proofs.lower.text_start.Goals as goal
 
-pub overflow_add-result-2 : goal.overflow_add-result-2
-overflow_add-result-2 c = omega (arith, c.shared_slice_known-2-1.given c.label_at-p.result, c.byte.ensures, c.label_at-p.ensures)
-
 pub returns : goal.returns
-returns c = from_is c.args.recs.now c.args.text.now c.args.i c.label_at-p.result c.byte.result (c.label_at-p.ensures.0 ∙ word_in 2 _ _ (omega (arith, c.requires))) c.byte.ensures
+returns c = from_is c.args.body.records.now c.args.body.text.now c.args.i c.label_at-p.result c.byte.result (c.label_at-p.ensures.0 ∙ word_in 2 _ _ (omega (arith, c.requires))) c.byte.ensures.0
