@@ -1,68 +1,35 @@
-// The operations by their numbers, with one kind of answer.
+// What an operation answers, or is expected to answer.
+use refusal::Refusal;
+use std::fmt;
 
-// A refusal's number and place, or 0 and the output's length.
-#[derive(Clone, Copy)]
-pub struct Answer {
+// A refusal's number and place. No `Reason`, since a case may expect any number, and its line tells it.
+#[derive(Clone, Copy, Debug, PartialEq, Eq)]
+pub struct Refused {
     pub number: usize,
-    pub value: usize,
+    pub place: usize,
 }
 
-fn of_translate(a: translate::Answer) -> Answer {
-    match a {
-        translate::Answer::Done(n) => Answer {
-            number: 0,
-            value: n,
-        },
-        translate::Answer::Refused(number, place) => Answer {
-            number: number,
-            value: place,
-        },
+impl From<Refusal> for Refused {
+    fn from(refusal: Refusal) -> Refused {
+        Refused {
+            number: refusal.reason.number(),
+            place: refusal.place,
+        }
     }
 }
 
-fn of_run(a: run::Answer) -> Answer {
-    match a {
-        run::Answer::Done(n) => Answer {
-            number: 0,
-            value: n,
-        },
-        run::Answer::Refused(number, place) => Answer {
-            number: number,
-            value: place,
-        },
-    }
-}
+// The output's length, or why and where there is none.
+pub type Answer = Result<usize, Refused>;
 
-fn of_main(a: main_table::Answer) -> Answer {
-    match a {
-        main_table::Answer::Done(n) => Answer {
-            number: 0,
-            value: n,
-        },
-        main_table::Answer::Refused(number, place) => Answer {
-            number: number,
-            value: place,
-        },
-    }
-}
+// An answer as a line tells it.
+#[derive(Clone, Copy)]
+pub struct Told(pub Answer);
 
-pub(crate) fn of<'a>(
-    operation: usize,
-    first: &'a [u8],
-    second: &'a [u8],
-    out: &mut [u8],
-    work1: &mut [u8],
-    work2: &mut [u8],
-    work3: &mut [u8],
-) -> Answer {
-    if operation == 0 {
-        return of_translate(translate::translate(first, out, work1));
+impl fmt::Display for Told {
+    fn fmt<W: fmt::Write>(&self, f: &mut fmt::Formatter<W>) -> fmt::Result {
+        match self.0 {
+            Ok(n) => write!(f, "done {n}"),
+            Err(Refused { number, place }) => write!(f, "refused {number} at {place}"),
+        }
     }
-    if operation == 1 {
-        return of_run(run::run(first, second, out, work1, work2));
-    }
-    if operation == 2 {
-        return of_main(main_table::main(first, out));
-    }
-    of_run(resolve::resolve(first, out, work1, work2, work3))
 }

@@ -1,95 +1,54 @@
-// How many answers of each kind. Each operation has 32 numbers: those of the refusals, with 0 for none, then 30 all cases, 31 the same ones.
-ghost use Rattle.std.specs.Prelude.{◌<◌, ◌≤◌};
-
+// How many answers of each kind an operation gave.
 use crate::answer::Answer;
-use crate::tell::{decimal, operation_name, say};
+use std::fmt;
 
-fn start(operation: usize) -> usize
-    ensures { result ≤ 96 }
-{
-    if operation == 0 {
-        return 0;
-    }
-    if operation == 1 {
-        return 32;
-    }
-    if operation == 2 {
-        return 64;
-    }
-    96
+#[derive(Clone, Copy)]
+pub struct Count {
+    cases: u64,
+    same: u64,
+    accepted: u64,
+    // By the number of the refusal, from 1.
+    refused: [u64; 22],
 }
 
-fn place(operation: usize, k: usize) -> usize
-    ensures { result < 128 }
-{
-    if k < 32 {
-        return start(operation) + k;
-    }
-    127
-}
+impl Count {
+    pub const NONE: Count = Count {
+        cases: 0,
+        same: 0,
+        accepted: 0,
+        refused: [0; 22],
+    };
 
-fn at(counts: &[u64; 128], operation: usize, k: usize) -> u64 {
-    let i = place(operation, k);
-    counts[i]
-}
-
-fn add(counts: &mut [u64; 128], operation: usize, k: usize) {
-    let i = place(operation, k);
-    let n = counts[i];
-    counts[i] = n.wrapping_add(1);
-}
-
-// A number that is none of the paper's counts with 29.
-fn known(number: usize) -> usize {
-    if number > 21 {
-        return 29;
-    }
-    number
-}
-
-// Answers how many there are now.
-pub(crate) fn note(counts: &mut [u64; 128], operation: usize, a: Answer, same: bool) -> u64 {
-    add(counts, operation, known(a.number));
-    add(counts, operation, 30);
-    if same {
-        add(counts, operation, 31);
-    }
-    at(counts, operation, 30)
-}
-
-fn refusal(n: u64, k: usize) {
-    if n > 0 {
-        say(b", ");
-        decimal(n);
-        say(b" refused ");
-        decimal(k as u64);
+    // Answers how many cases there are now.
+    pub(crate) fn note(&mut self, answer: Answer, same: bool) -> u64 {
+        match answer {
+            Ok(_) => self.accepted = self.accepted.wrapping_add(1),
+            Err(refused) => {
+                if let Some(n) = self.refused.get_mut(refused.number) {
+                    *n = n.wrapping_add(1);
+                }
+            }
+        }
+        self.cases = self.cases.wrapping_add(1);
+        self.same = self.same.wrapping_add(u64::from(same));
+        self.cases
     }
 }
 
-fn refusals(counts: &[u64; 128], operation: usize) {
-    let mut k: usize = 1;
-    while k < 30 {
-        refusal(at(counts, operation, k), k);
-        k += 1;
+impl fmt::Display for Count {
+    fn fmt<W: fmt::Write>(&self, f: &mut fmt::Formatter<W>) -> fmt::Result {
+        let Count {
+            cases,
+            same,
+            accepted,
+            ..
+        } = self;
+        write!(f, "{cases} cases, {same} the same, {accepted} accepted")?;
+        for (number, n) in self.refused.iter().enumerate() {
+            if *n > 0 {
+                write!(f, ", {n} refused {number}")?;
+            }
+        }
+        Ok(())
     }
-}
-
-fn tell_operation(counts: &[u64; 128], operation: usize) {
-    operation_name(operation);
-    say(b": ");
-    decimal(at(counts, operation, 30));
-    say(b" cases, ");
-    decimal(at(counts, operation, 31));
-    say(b" the same, ");
-    decimal(at(counts, operation, 0));
-    say(b" accepted");
-    refusals(counts, operation);
-    say(b"\n");
-}
-
-pub(crate) fn tell(counts: &[u64; 128]) {
-    tell_operation(counts, 0);
-    tell_operation(counts, 1);
-    tell_operation(counts, 2);
-    tell_operation(counts, 3);
 }

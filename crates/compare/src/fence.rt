@@ -1,73 +1,55 @@
 // A lent slice lies inside a larger array: 64 bytes before it and all bytes behind it are to be kept.
-
 const FENCE: usize = 64;
 
 // Room for the longest slice that is lent.
-pub type Array = [u8; 65664];
+const SIZE: usize = 65664;
 
-pub(crate) fn fill(s: &mut Array, within: &[u8]) {
-    memory::copy(s, FENCE, within);
+#[derive(Drop)]
+pub struct Fenced {
+    bytes: [u8; SIZE],
+    own: u8,
 }
 
-// An input of n bytes, or none where it does not fit.
-pub(crate) fn inside(s: &Array, n: usize) -> &[u8] {
-    memory::part(s, FENCE, n)
-}
-
-// A slice of n bytes to be written, or all where it does not fit.
-pub(crate) fn lent(s: &mut [u8], n: usize) -> &mut [u8] {
-    let size = s.len();
-    if size < FENCE {
-        return s;
-    }
-    if n > size - FENCE {
-        return s;
-    }
-    let from = FENCE;
-    let to = FENCE + n;
-    &mut s[from..to]
-}
-
-fn all(s: &[u8], x: u8) -> bool {
-    let mut i: usize = 0;
-    while i < s.len() {
-        if s[i] != x {
-            return false;
+impl Fenced {
+    pub(crate) fn new(own: u8) -> Fenced {
+        Fenced {
+            bytes: [own; SIZE],
+            own,
         }
-        i += 1;
     }
-    true
-}
 
-fn same(a: &[u8], b: &[u8]) -> bool {
-    if a.len() != b.len() {
-        return false;
+    // Nothing is filled in that does not fit.
+    pub(crate) fn fill(&mut self, within: &[u8]) {
+        memory::copy(&mut self.bytes, FENCE, within);
     }
-    let mut i: usize = 0;
-    while i < a.len() {
-        if a[i] != b[i] {
-            return false;
+
+    // An input of n bytes, or none where it does not fit.
+    pub(crate) fn inside(&self, n: usize) -> &[u8] {
+        memory::part(&self.bytes, FENCE, n)
+    }
+
+    // A slice of n bytes to be written, or all where it does not fit.
+    pub(crate) fn lent(&mut self, n: usize) -> &mut [u8] {
+        if n <= SIZE - FENCE {
+            &mut self.bytes[FENCE..FENCE + n]
+        } else {
+            &mut self.bytes
         }
-        i += 1;
     }
-    true
-}
 
-fn behind(s: &[u8], at: usize) -> &[u8] {
-    if at <= s.len() {
-        return &s[at..];
+    pub(crate) fn spoil(&mut self, at: usize) {
+        if let Some(byte) = self.bytes.get_mut(at) {
+            *byte = 1;
+        }
     }
-    s
-}
 
-// Whether the array holds x but for what lies inside.
-pub(crate) fn holds(s: &Array, x: u8, within: &[u8]) -> bool {
-    let n = within.len();
-    if !all(memory::part(s, 0, FENCE), x) {
-        return false;
+    // Whether the array holds its own byte but for what lies inside.
+    pub(crate) fn holds(&self, within: &[u8]) -> bool {
+        let (before, rest) = self.bytes.split_at(FENCE);
+        let Some(behind) = rest.strip_prefix(within) else {
+            return false;
+        };
+        let is_own = |byte: &u8| *byte == self.own;
+        before.iter().all(is_own) && behind.iter().all(is_own)
     }
-    if !same(memory::part(s, FENCE, n), within) {
-        return false;
-    }
-    all(behind(behind(s, FENCE), n), x)
 }

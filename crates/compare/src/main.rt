@@ -1,76 +1,43 @@
-// Compares the four operations with the second implementation, byte for byte. Standard input holds how many cases there are, then each case:
-// its head, its name, its inputs and the output that is expected. A case with a name gets a line, and so does one that differs; at the end
-// each operation gets a line.
+// Compares the four operations with the second implementation, byte for byte. Standard input holds how many cases
+// there are, then each case: its head, its name, its inputs and the output that is expected. A case with a name gets
+// a line, and so does one that differs; at the end each operation gets a line.
 #![tactic(auto)]
 
 mod answer;
+mod arrays;
+mod case;
 mod count;
 mod fence;
-mod head;
-mod tell;
-mod watch;
+mod operation;
+mod seen;
 
-use head::Head;
-use tell::Seen;
+use case::{Case, number};
+use count::Count;
+use operation::Operation;
+use seen::Seen;
 
-// Each lent slice lies inside an array of one byte, which is looked at whole afterwards.
-fn compared(h: Head, body: &[u8]) -> Seen {
-    let mut first = [165u8; 65664];
-    let mut second = [165u8; 65664];
-    let mut out = [165u8; 65664];
-    let mut work1 = [90u8; 65664];
-    let mut work2 = [60u8; 65664];
-    let mut work3 = [30u8; 65664];
-    fence::fill(&mut first, head::first(h, body));
-    fence::fill(&mut second, head::second(h, body));
-    let a = answer::of(
-        h.operation,
-        fence::inside(&first, h.first),
-        fence::inside(&second, h.second),
-        fence::lent(&mut out, h.out),
-        fence::lent(&mut work1, h.work1),
-        fence::lent(&mut work2, h.work2),
-        fence::lent(&mut work3, h.work3),
-    );
-    Seen {
-        answer: a,
-        first: watch::bytes(&mut first, h, 1, head::first(h, body)),
-        second: watch::bytes(&mut second, h, 2, head::second(h, body)),
-        out: watch::bytes(&mut out, h, 3, head::expected(h, body)),
-        work1: watch::work(&mut work1, h, 1, 90),
-        work2: watch::work(&mut work2, h, 2, 60),
-        work3: watch::work(&mut work3, h, 3, 30),
-    }
-}
-
-fn case(counts: &mut [u64; 128]) {
-    let h = head::read();
-    if h.operation > 3 {
-        return;
-    }
+// What does not fit counts as nothing, so that the case is missing in the end.
+fn compare_next(rt: &HostRuntime, counts: &mut [Count; 4]) {
     let mut body = [0u8; 160000];
-    if !head::read_body(&mut body, head::size(h)) {
+    let Some(case) = Case::read(rt, &mut body) else {
         return;
-    }
-    let seen = compared(h, &body);
-    let same = tell::is_same(h, seen);
-    let n = count::note(counts, h.operation, seen.answer, same);
+    };
+    let seen = Seen::of(&case);
+    let same = seen.is_as_expected(&case);
+    let n = counts[case.operation as usize].note(seen.answer, same);
     if !same {
-        tell::differing(h, seen, head::name(h, &body), n);
-        return;
-    }
-    if h.name > 0 {
-        tell::named(h, seen, head::name(h, &body));
+        seen::tell_differing(rt, &case, &seen, n);
+    } else if !case.name.is_empty() {
+        seen::tell_named(rt, &case, &seen);
     }
 }
 
-fn main() {
-    let mut counts = [0u64; 128];
-    let n = head::number();
-    let mut i: usize = 0;
-    while i < n {
-        case(&mut counts);
-        i += 1;
+fn main(rt: HostRuntime) {
+    let mut counts = [Count::NONE; 4];
+    for _ in 0..number(&rt) {
+        compare_next(&rt, &mut counts);
     }
-    count::tell(&counts);
+    for (operation, count) in Operation::ALL.iter().zip(counts) {
+        let _ = println!(rt; "{operation}: {count}");
+    }
 }

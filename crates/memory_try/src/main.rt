@@ -1,87 +1,78 @@
 // Calls each function of memory at places within, at the end of and past a slice, and writes what comes of it.
 #![tactic(auto)]
 
-const STDOUT_FILENO: i32 = 1;
+use std::io::Write;
 
-fn number(x: u64) {
-    io::print_decimal(STDOUT_FILENO, x);
-    io::write_all(STDOUT_FILENO, b"\n");
+fn text(rt: &HostRuntime, bytes: &[u8]) {
+    let _ = rt.stdout().write_all(bytes);
+    let _ = println!(rt; "");
 }
 
-fn text(s: &[u8]) {
-    io::write_all(STDOUT_FILENO, s);
-    io::write_all(STDOUT_FILENO, b"\n");
+fn gets(rt: &HostRuntime, s: &[u8], at: usize) {
+    let _ = println!(rt; "{}", memory::get16(s, at));
+    let _ = println!(rt; "{}", memory::get32(s, at));
+    let _ = println!(rt; "{}", memory::get64(s, at));
 }
 
-fn gets(s: &[u8], at: usize) {
-    number(memory::get16(s, at) as u64);
-    number(memory::get32(s, at) as u64);
-    number(memory::get64(s, at));
-}
-
-fn puts(at: usize) {
+fn puts(rt: &HostRuntime, at: usize) {
     let mut s = *b"..........";
     memory::put16(&mut s, at, 16961);
-    text(&s);
+    text(rt, &s);
     memory::put32(&mut s, at, 1684234849);
-    text(&s);
+    text(rt, &s);
     memory::put64(&mut s, at, 4123106164818064178);
-    text(&s);
+    text(rt, &s);
 }
 
-fn copies(at: usize) {
+fn copies(rt: &HostRuntime, at: usize) {
     let mut s = *b"0123456789";
     memory::copy(&mut s, at, b"abc");
-    text(&s);
+    text(rt, &s);
 }
 
-fn slides(from: usize, to: usize, n: usize) {
+fn slides(rt: &HostRuntime, from: usize, to: usize, n: usize) {
     let mut s = *b"0123456789";
     memory::slide(&mut s, from, to, n);
-    text(&s);
+    text(rt, &s);
 }
 
-fn clears() {
+fn clears(rt: &HostRuntime) {
     let mut long = [7u8; 65540];
     memory::clear(&mut long);
-    number(memory::get64(&long, 0));
-    number(memory::get64(&long, 65532));
+    let _ = println!(rt; "{}", memory::get64(&long, 0));
+    let _ = println!(rt; "{}", memory::get64(&long, 65532));
     let mut short = [7u8; 65535];
     memory::clear(&mut short);
-    number(memory::get16(&short, 0) as u64);
+    let _ = println!(rt; "{}", memory::get16(&short, 0));
 }
 
-fn parts(at: usize, len: usize) {
-    text(memory::part(b"0123456789", at, len));
+fn parts(rt: &HostRuntime, at: usize, len: usize) {
+    text(rt, memory::part(b"0123456789", at, len));
 }
 
-fn main() {
+fn main(rt: HostRuntime) {
     let s = [1u8, 2, 3, 4, 5, 6, 7, 8, 255, 254];
-    gets(&s, 0);
-    gets(&s, 2);
-    gets(&s, 3);
-    gets(&s, 8);
-    gets(&s, 9);
-    gets(&s, 18446744073709551615);
-    puts(0);
-    puts(2);
-    puts(3);
-    puts(18446744073709551615);
-    copies(0);
-    copies(7);
-    copies(8);
-    copies(18446744073709551615);
-    slides(0, 3, 7);
-    slides(3, 0, 7);
-    slides(2, 2, 8);
-    slides(0, 4, 7);
-    slides(4, 0, 7);
-    slides(0, 0, 18446744073709551615);
-    clears();
-    parts(2, 3);
-    parts(10, 0);
-    parts(0, 10);
-    parts(9, 2);
-    parts(11, 0);
-    parts(1, 18446744073709551615);
+    for at in [0, 2, 3, 8, 9, usize::MAX] {
+        gets(&rt, &s, at);
+    }
+    for at in [0, 2, 3, usize::MAX] {
+        puts(&rt, at);
+    }
+    for at in [0, 7, 8, usize::MAX] {
+        copies(&rt, at);
+    }
+    for (from, to, n) in [
+        (0, 3, 7),
+        (3, 0, 7),
+        (2, 2, 8),
+        (0, 4, 7),
+        (4, 0, 7),
+        (0, 0, usize::MAX),
+    ] {
+        slides(&rt, from, to, n);
+    }
+    clears(&rt);
+    for (at, len) in [(2, 3), (10, 0), (0, 10), (9, 2), (11, 0), (1, usize::MAX)] {
+        parts(&rt, at, len);
+    }
 }

@@ -1,16 +1,16 @@
--- `decimal n` is n in decimal notation, the only one, and it is what `io::decimal` writes. Assumes nothing.
+-- `decimal n` is n in decimal notation, the only one, and it is what std writes of n. Assumes nothing.
 use mathlib.Core.Path.{◌≡◌, refl, sym, ap, ap₂, ◌∙◌}
 use mathlib.Core.Bool.{Bool, true, false, ◌&&◌}
 use mathlib.Core.List.{List, [], ◌∷◌, ◌++◌}
 use mathlib.Core.Logic.{⊎_elim}
 use Prim.Native.Nat.{ℕ, zero, suc, ◌+◌, ◌-◌, ◌*◌, ◌/◌, ◌%◌, ◌^◌, ◌≤◌, ◌<◌}
-use native.Mathlib.Nat.{le_refl, le_trans, mod-lt, div-add-mod', mod-eq_of_lt, div-lt_iff_lt-mul, le-div_iff_mul-le, pow-suc, pow-le-pow_right}
+use native.Mathlib.Nat.{le_refl, le_trans, mod-lt, div-add-mod'}
 use native.Mathlib.Omega.{arith}
 use borrow.Author.Tests.{leb-true, lt-ltb, le-ltb, le-leb}
 use lib.Dec.{leb, lit<}
 use lib.ListN.{length, length-append}
-use Rattle.io.specs.Digits.{IsDigitCount, hex_digit_ascii}
-use Rattle.io.specs.Digits.{last_digits as told}
+use Rattle.std.specs.Fmt.{decimal as shown}
+use Rattle.std.proofs.lemmas.Fmt.{decimal_by_steps}
 use Rattle.memory.proofs.Laws.{fit}
 use Rattle.paper.specs.Tokens.{digit, count}
 use Rattle.paper.specs.Written.{Each, no_more, one_more, Digits}
@@ -199,56 +199,7 @@ pub only_decimal : (n : ℕ) (s : List ℕ) → Notes n s → s ≡ decimal n
 unfolding decimal
 only_decimal n s f = only n n s (le_refl n) f
 
--- ---- what `io::decimal` writes
+-- ---- what std writes of a number of 64 bits
 
-below : (j : ℕ) → j < 10 ^ j
-below zero = lit< tt
-below (suc j) = let h = below j in rw (pow-suc 10 j) (omega arith)
-
-a_glyph : (d : ℕ) → d < 10 → hex_digit_ascii d ≡ 48 + d
-a_glyph d h = rw (lt-ltb d 10 h)
-
-told_digits : (k j n : ℕ) → j ≤ k → IsDigitCount 10 1 n (suc j) → told 10 (suc j) n ≡ digits k n
-told_digits k zero n h f =
-    let l : n < 10 = f.1 in
-    ap (λ (x : ℕ). x ∷ []) (a_glyph (n % 10) (mod-lt n {m = 10} (lit< tt)) ∙ ap (λ (x : ℕ). 48 + x) (mod-eq_of_lt l)) ∙ sym (alone k n l)
-told_digits zero (suc j) n h f = absurd (omega arith)
-told_digits (suc k) (suc j) n h f =
-    let w : suc (suc j) - 1 ≡ suc j = omega arith in
-    let z : suc j - 1 ≡ j = omega arith in
-    let p : 10 ^ suc j ≤ n = rw w at (f.2 (omega arith)) in
-    let t : 10 ^ 1 ≤ 10 ^ suc j = pow-le-pow_right (lit< tt) {i = 1} {j = suc j} (omega arith) in
-    let u : n < 10 ^ suc j * 10 = rw (pow-suc 10 (suc j)) at f.1 in
-    let v : 10 ^ j * 10 ≤ n = rw (pow-suc 10 j) at p in
-    let g : IsDigitCount 10 1 (n / 10) (suc j) = (omega arith, (div-lt_iff_lt-mul (lit< tt)).1 u, λ i. rw z ((le-div_iff_mul-le (lit< tt)).1 v)) in
-    ap₂ (λ (x : List ℕ) (y : ℕ). x ++ (y ∷ [])) (told_digits k j (n / 10) (omega arith) g) (a_glyph (n % 10) (mod-lt n {m = 10} (lit< tt))) ∙ sym (behind k n (le_trans t p))
-
-pub told_decimal : (r n : ℕ) → IsDigitCount 10 1 n r → told 10 r n ≡ decimal n
-unfolding decimal
-told_decimal zero n f = absurd (omega (arith, f.0))
-told_decimal (suc j) n f =
-    ⊎_elim
-    (λ l. told_digits n j n (omega arith) f)
-    (λ l. told_digits n j n (let b = below j in let z : suc j - 1 ≡ j = omega arith in let p : 10 ^ j ≤ n = rw z at (f.2 (omega arith)) in omega arith) f)
-    (fit j 0)
-
-told_length : (k n : ℕ) → length (told 10 k n) ≡ k
-told_length zero n = refl
-told_length (suc k) n = simp length-append (omega (arith, told_length k (n / 10)))
-
--- a number of 64 bits has 20 digits at the most
-few : (n k : ℕ) → n < 18446744073709551616 → IsDigitCount 10 1 n k → k ≤ 20
-few n k h f =
-    ⊎_elim
-    (λ g. g)
-    (λ g.
-    let o : 20 ≤ k - 1 = omega arith in
-    let p : 10 ^ 20 ≤ 10 ^ (k - 1) = pow-le-pow_right (lit< tt) o in
-    let q : 100000000000000000000 ≤ n = le_trans p (f.2 (omega arith)) in
-    omega (arith, q))
-    (fit k 20)
-
-pub written : (n r : ℕ) (s : List ℕ) → n < 18446744073709551616 → IsDigitCount 10 1 n r → s ≡ told 10 r n → (s ≡ decimal n) × (length s ≤ 20)
-written n r s h f e =
-    let l : length s ≡ r = ap length e ∙ told_length r n in
-    (e ∙ told_decimal r n f, omega (arith, few n r h f))
+pub written : (n : ℕ) → n < 2 ^ 64 → shown n ≡ decimal n
+written n h = only_decimal n (shown n) (decimal_by_steps Notes notes_one notes_more n h)

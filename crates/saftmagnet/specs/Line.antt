@@ -1,6 +1,5 @@
 -- The line of a refusal, `refused N at P`, from its number and its place. Assumes nothing.
-use Rattle.std.specs.Prelude.{ℕ, zero, suc, ◌+◌, ◌/◌, ◌%◌, ◌≡◌, true, false, List, [], ◌∷◌, ◌++◌, ltb, length}
-use Rattle.memory.specs.Memory.{stored}
+use Rattle.std.specs.Prelude.{ℕ, zero, suc, ◌+◌, ◌/◌, ◌%◌, ◌≡◌, true, false, List, [], ◌∷◌, ◌++◌, ltb}
 use Rattle.paper.specs.Bytes.{bytes}
 use Rattle.paper.specs.Tokens.{count}
 use Rattle.paper.specs.Written.{Digits}
@@ -23,8 +22,3 @@ pub record Notes (n : ℕ) (s : List ℕ) : Type 0 where
 
 unfoldable pub refusal : ℕ → ℕ → List ℕ
 refusal number place = bytes "refused " ++ decimal number ++ bytes " at " ++ decimal place ++ 10 ∷ []
-
--- after a line has got these bytes at a place: what it then holds, and where they end
-pub record Added (line : List ℕ) (at : ℕ) (words : List ℕ) (after : List ℕ) (end : ℕ) : Type 0 where
-  pub ends : end ≡ at + length words
-  pub holds : after ≡ stored line at words

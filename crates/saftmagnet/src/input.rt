@@ -1,86 +1,56 @@
 // Bytes in: a reader read to its end or to the end of a buffer, and a file by its name.
-use memory::part;
 use std::env::FillError;
-use std::fs;
-use std::io::{Error, ErrorKind, Read as Source};
+use std::fmt::InlineText;
+use std::io::{Error, ErrorKind, Read, Result};
 use std::rt::Env;
 use std::str::from_utf8;
-
-#[derive(Clone, Copy)]
-pub enum Read {
-    Bytes(usize),
-    Fault,
-}
+use std::{fs, io};
 
 const NAME_TOO_LONG: i32 = 36;
 
-// Reads until buf is full or nothing more comes.
-fn fill<S: Source>(source: &mut S, buf: &mut [u8]) -> Result<usize, Error> {
-    let mut done: usize = 0;
-    while done < buf.len() {
-        let n = source.read(&mut buf[done..])?;
-        if n == 0 {
-            break;
-        }
-        done += n;
-    }
-    Ok(done)
-}
+// Room for any reason that the system gives.
+const REASON: usize = 256;
 
-// Says what could not be read or written, with the system's reason for it, without the number that the library puts behind.
+// Says what could not be read or written, with the system's reason for it, without the number that the library puts
+// behind.
 pub(crate) fn complain(rt: &HostRuntime, what: &str, error: Error) {
-    match format!(in rt.alloc(); "{error}") {
-        Ok(text) => {
-            let (reason, _) = text
-                .as_str()
-                .split_once(" (os error")
-                .unwrap_or((text.as_str(), ""));
-            let _ = eprintln!(rt; "saftmagnet: {what}: {reason}");
-        }
-        Err(_) => {
-            let _ = eprintln!(rt; "saftmagnet: {what}");
-        }
-    }
+    let text = InlineText::<REASON>::of(error);
+    let text = text.as_str();
+    let (reason, _) = text.split_once(" (os error").unwrap_or((text, ""));
+    let _ = eprintln!(rt; "saftmagnet: {what}: {reason}");
 }
 
-fn read_from<S: Source>(rt: &HostRuntime, source: &mut S, what: &str, buf: &mut [u8]) -> Read {
-    match fill(source, buf) {
-        Ok(n) => Read::Bytes(n),
-        Err(error) => {
-            complain(rt, what, error);
-            Read::Fault
-        }
-    }
+// Reads until buf is full or nothing more comes.
+fn fill<'a, R: Read>(source: &mut R, buf: &'a mut [u8]) -> Result<&'a [u8]> {
+    let room = buf.len();
+    let n = io::copy(&mut source.take(room as u64), &mut &mut buf[..])?;
+    Ok(&buf[..room.min(n as usize)])
 }
 
-pub(crate) fn read_input(rt: &HostRuntime, buf: &mut [u8]) -> Read {
-    read_from(rt, &mut rt.stdin(), "standard input", buf)
+fn told<T: Drop>(rt: &HostRuntime, what: &str, read: Result<T>) -> Option<T> {
+    read.map_err(|error| complain(rt, what, error)).ok()
 }
 
-fn read_named(rt: &HostRuntime, name: &str, buf: &mut [u8]) -> Read {
-    match fs::open(rt, name) {
-        Ok(mut file) => read_from(rt, &mut file, name, buf),
-        Err(error) => {
-            complain(rt, name, error);
-            Read::Fault
-        }
-    }
+// What cannot be read is told, and then there is nothing.
+pub(crate) fn read_input<'a>(rt: &HostRuntime, buf: &'a mut [u8]) -> Option<&'a [u8]> {
+    told(rt, "standard input", fill(&mut rt.stdin(), buf))
 }
 
-fn no_name(rt: &HostRuntime, error: Error) -> Read {
-    complain(rt, "the name of a file", error);
-    Read::Fault
+fn argument<'a>(rt: &HostRuntime, i: usize, buf: &'a mut [u8]) -> Result<&'a str> {
+    let n = rt.arg(i, buf).map_err(|error| match error {
+        FillError::NotPresent => Error::from(ErrorKind::NotFound),
+        FillError::TooLong => Error::from_raw_os_error(NAME_TOO_LONG),
+    })?;
+    from_utf8(&buf[..n]).map_err(|_| Error::new(ErrorKind::InvalidInput, "it is not UTF-8"))
+}
+
+fn read_named<'a>(rt: &HostRuntime, name: &str, buf: &'a mut [u8]) -> Result<&'a [u8]> {
+    fill(&mut fs::open(rt, name)?, buf)
 }
 
 // The file that the program's argument i names.
-pub(crate) fn read_file(rt: &HostRuntime, i: usize, buf: &mut [u8]) -> Read {
+pub(crate) fn read_file<'a>(rt: &HostRuntime, i: usize, buf: &'a mut [u8]) -> Option<&'a [u8]> {
     let mut path = [0u8; 4096];
-    match rt.arg(i, &mut path) {
-        Ok(n) => match from_utf8(part(&path, 0, n)) {
-            Ok(name) => read_named(rt, name, buf),
-            Err(_) => no_name(rt, Error::new(ErrorKind::InvalidInput, "it is not UTF-8")),
-        },
-        Err(FillError::NotPresent) => no_name(rt, Error::from(ErrorKind::NotFound)),
-        Err(FillError::TooLong) => no_name(rt, Error::from_raw_os_error(NAME_TOO_LONG)),
-    }
+    let name = told(rt, "the name of a file", argument(rt, i, &mut path))?;
+    told(rt, name, read_named(rt, name, buf))
 }
