@@ -13,15 +13,17 @@ unfoldable pub form_of : Form → Decoder.Form
 form_of Table = in_table
 form_of Steps = in_steps
 
+-- "form (1 step list, 2 table)"
 abbrev pub number_of : Form → ℕ
 number_of Table = 2
 number_of Steps = 1
 
+-- "1,024 steps and 32,768 step text bytes; tables of depth 32, 1,024 nodes and 16,384 text bytes."
 abbrev pub most_text : Form → ℕ
 most_text Table = 16384
 most_text Steps = 32768
 
--- the bytes of a record
+-- the bytes of a record: "Table record, 16 bytes", "Step record, 20 bytes"
 unfoldable pub size_of : Form → ℕ
 size_of form = 16 + (form_of form).width
 

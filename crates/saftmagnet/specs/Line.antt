@@ -20,5 +20,6 @@ pub record Notes (n : ℕ) (s : List ℕ) : Type 0 where
   pub some : Digits s
   pub first : (t : List ℕ) → s ≡ 48 ∷ t → t ≡ []
 
+-- "or one line `refused N at P`": the words of `refusal_text`, with a notation that is proved for every number, and a line's end
 unfoldable pub refusal : ℕ → ℕ → List ℕ
 refusal number place = bytes "refused " ++ decimal number ++ bytes " at " ++ decimal place ++ 10 ∷ []
