@@ -51,6 +51,8 @@ pub struct Arrays {
 }
 
 impl Arrays {
+    // Made where they are kept: handed back, their 394,032 bytes are copied, and lie on the stack twice.
+    #[inline(always)]
     pub(crate) fn new() -> Arrays {
         Arrays {
             first: Fenced::new(165),

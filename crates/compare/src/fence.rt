@@ -11,6 +11,8 @@ pub struct Fenced {
 }
 
 impl Fenced {
+    // Likewise made where it is kept.
+    #[inline(always)]
     pub(crate) fn new(own: u8) -> Fenced {
         Fenced {
             bytes: [own; SIZE],

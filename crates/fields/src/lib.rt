@@ -2,16 +2,21 @@
 // No struct of records and place with methods: `Record { recs, at: i }.label()` is no plainer than `label_at(recs, i)`.
 #![tactic(auto)]
 
-ghost use Rattle.std.specs.Prelude.{◌≡◌, ◌+◌, ◌<◌};
+ghost use Rattle.std.specs.Prelude.{◌≡◌, ◌+◌, ◌≤◌, ◌<◌};
 ghost use Rattle.memory.specs.Memory.{word_at};
 
-use memory::{get16, get32, get64};
+use memory::{fits, get16, get32, get64};
 
-// A place past every slice stays past it.
+// The place is computed only where it lies inside, so that it cannot overflow.
 fn short(recs: &[u8], i: usize, k: usize) -> usize
+    requires { k ≤ 16 }
     ensures { (result ≡ word_at 2 recs.now (i + k)) × (result < 65536) }
 {
-    usize::from(get16(recs, i.saturating_add(k)))
+    if fits(recs.len(), i, k + 2) {
+        usize::from(get16(recs, i + k))
+    } else {
+        0
+    }
 }
 
 // A table record's kind.
@@ -51,12 +56,20 @@ pub fn span_at(recs: &[u8], i: usize) -> usize
 pub fn value_at(recs: &[u8], i: usize) -> u64
     ensures { result ≡ word_at 8 recs.now (i + 8) }
 {
-    get64(recs, i.saturating_add(8))
+    if fits(recs.len(), i, 16) {
+        get64(recs, i + 8)
+    } else {
+        0
+    }
 }
 
 // A step's place in the source.
 pub fn place_at(recs: &[u8], i: usize) -> usize
     ensures { result ≡ word_at 4 recs.now (i + 16) }
 {
-    get32(recs, i.saturating_add(16)) as usize
+    if fits(recs.len(), i, 20) {
+        get32(recs, i + 16) as usize
+    } else {
+        0
+    }
 }

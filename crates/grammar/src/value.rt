@@ -3,7 +3,7 @@ ghost use Rattle.std.specs.Prelude.{◌≡◌, ◌≤◌, length};
 ghost use Rattle.grammar.specs.Values.{BegunIs};
 
 use crate::basic::{Basic, find_basic};
-use crate::path::{Reference, read_reference};
+use crate::path::{Reference, read_path};
 use crate::token::token_at;
 use refusal::Refusal;
 use tokens::{Kind, Word};
@@ -28,21 +28,28 @@ pub(crate) fn find_value(src: &[u8], at: usize) -> Result<FoundValue, Refusal>
     ensures { BegunIs src.now at result }
 {
     let token = token_at(src, at)?;
-    if token.kind == Kind::Word(Word::Extends) {
-        Ok(FoundValue {
+    match token.kind {
+        Kind::Word(Word::Extends) => Ok(FoundValue {
             value: Value::Extends,
             next: token.end,
-        })
-    } else if let Some(reference) = read_reference(src, at)? {
-        Ok(FoundValue {
-            value: Value::Link(reference),
-            next: reference.next,
-        })
-    } else {
-        let found = find_basic(src, at)?;
-        Ok(FoundValue {
-            value: Value::Basic(found.basic),
-            next: found.next,
-        })
+        }),
+        Kind::Name => {
+            let path = read_path(src, at)?;
+            Ok(FoundValue {
+                value: Value::Link(Reference {
+                    place: token.at,
+                    next: path.next,
+                    size: path.size,
+                }),
+                next: path.next,
+            })
+        }
+        _ => {
+            let found = find_basic(src, at)?;
+            Ok(FoundValue {
+                value: Value::Basic(found.basic),
+                next: found.next,
+            })
+        }
     }
 }

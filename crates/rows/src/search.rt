@@ -53,7 +53,9 @@ impl<'a> Rows<'a> {
         lo.max(end)
     }
 
-    // The label is read only where the depth is right: most rows have another.
+    // The label is read only where the depth is right: most rows have another. It stands within its callers: else each
+    // call hands the rows and both texts on in memory.
+    #[inline(always)]
     pub fn child(self, lo: usize, d: usize, texts: Texts<'_>, name: &[u8]) -> Option<usize>
         ensures { found result ≡ seek name.now d
             (drop lo (rows_in texts.entry.list.now texts.entry.table.now self.entry.bytes.now self.entry.count)) lo }

@@ -1,5 +1,6 @@
 // The two texts that places point into.
-ghost use Rattle.std.specs.Prelude.{◌≡◌, ◌<◌};
+ghost use Rattle.std.specs.Prelude.{◌≡◌, ◌+◌, ◌<◌, drop, get_or};
+ghost use Rattle.memory.specs.Memory.{part_at};
 ghost use Rattle.rows.specs.View.{PointsInto, byte_of, text_part, name_of, label_of};
 ghost use Rattle.rows.specs.Search.{calls};
 
@@ -47,15 +48,31 @@ impl<'a> Texts<'a> {
     pub fn name_of(self, place: usize) -> &'a [u8]
         ensures { result.now ≡ name_of self.entry.list.now self.entry.table.now place }
     {
-        match self.part(place, 1 + self.byte_of(place)) {
-            [_, name @ ..] => name,
-            none => none,
-        }
+        let (text, at) = self.home(place);
+        name_in(text, at)
     }
 
+    // A text each, and within its callers: else a pair of both is made for each name that is looked at.
+    #[inline(always)]
     pub fn is_named(self, place: usize, name: &[u8]) -> bool
         ensures { result ≡ calls (label_of self.entry.list.now self.entry.table.now place) name.now }
     {
-        place != ELEMENT && self.name_of(place) == name
+        if place == ELEMENT {
+            false
+        } else if place < SECOND {
+            name_in(self.list, place) == name
+        } else {
+            name_in(self.table, place - SECOND) == name
+        }
+    }
+}
+
+// The name behind its length byte; none where the text cuts it off.
+fn name_in(text: &[u8], at: usize) -> &[u8]
+    ensures { result.now ≡ drop 1 (part_at text.now at (1 + get_or text.now at 0)) }
+{
+    match part(text, at, 1 + byte(text, at)) {
+        [_, name @ ..] => name,
+        none => none,
     }
 }

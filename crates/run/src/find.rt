@@ -30,7 +30,9 @@ fn find_from<'a>(
     store.rows.child(inner, d + last, texts, name)
 }
 
-// Scope joined with the whole reference.
+// Scope joined with the whole reference. A call: within resolve, which calls itself for each name of the scope, its
+// frame would lie on the stack as often.
+#[inline(never)]
 fn find<'a>(
     store: Known<'a>,
     scope: Path<'a>,

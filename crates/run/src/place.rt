@@ -24,15 +24,18 @@ pub(crate) fn descend<'a>(
     ensures { (PlaceIn store.entry.rows.count result)
         × (DescendsFrom (rows_of texts.entry store.entry) lo d (drop j (names_of texts.entry path.entry)) result) }
 {
-    if j == path.count {
-        return Ok(lo);
+    let mut at = lo;
+    let mut depth = d;
+    for k in j..path.count {
+        let name = texts.name_of(usize::from(get16(path.places, k * 2)));
+        let Some(i) = store.rows.child(at, depth, texts, name) else {
+            return Err(Reason::TargetAbsent);
+        };
+        if kind_at(store.rows.bytes, i) != Kind::Component.number() {
+            return Err(Reason::TargetIsNoComponent);
+        }
+        at = i + 1;
+        depth += 1;
     }
-    let name = texts.name_of(usize::from(get16(path.places, j * 2)));
-    let Some(i) = store.rows.child(lo, d, texts, name) else {
-        return Err(Reason::TargetAbsent);
-    };
-    if kind_at(store.rows.bytes, i) != Kind::Component.number() {
-        return Err(Reason::TargetIsNoComponent);
-    }
-    descend(store, i + 1, d + 1, path, j + 1, texts)
+    Ok(at)
 }

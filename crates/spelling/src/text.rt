@@ -1,5 +1,6 @@
 // Strings: checked and measured, and decoded into a lent slice.
 ghost use Rattle.std.specs.Prelude.{◌≡◌, true, ◌+◌, ◌≤◌, length, drop};
+ghost use Rattle.paper.specs.Bytes.{at};
 ghost use Rattle.paper.specs.Tokens.{escaped};
 ghost use Rattle.paper.specs.Scanner.{meant};
 ghost use Rattle.spelling.specs.Text.{option_of, meant_of, quotes, quoted_of, is_closed, text_in, put};
@@ -33,21 +34,34 @@ fn escape(b: u8) -> Option<u8>
     }
 }
 
-// The byte that is meant at the front.
-fn decode_one(s: &[u8]) -> Option<Meant>
+// The byte that is meant at the front, where a backslash stands there: three octal digits behind it, or an escape.
+fn decode_escape(s: &[u8]) -> Option<Meant>
+    requires { at s.now 0 ≡ 92 }
     ensures { result ≡ meant_of (meant s.now) }
 {
     match s {
-        [] | [b'\n' | b'\r', ..] | [b'\\'] => None,
-        [b'\\', x @ b'0'..=b'3', y @ b'0'..=b'7', z @ b'0'..=b'7', ..] => Some(Meant {
+        [_, x @ b'0'..=b'3', y @ b'0'..=b'7', z @ b'0'..=b'7', ..] => Some(Meant {
             byte: (x - b'0') * 64 + (y - b'0') * 8 + (z - b'0'),
             len: 4,
         }),
-        [b'\\', b, ..] => Some(Meant {
+        [_, b, ..] => Some(Meant {
             byte: escape(*b)?,
             len: 2,
         }),
-        [b, ..] => Some(Meant { byte: *b, len: 1 }),
+        _ => None,
+    }
+}
+
+// The byte that is meant at the front. It stands within the loops over a string, and looks at no more than the first
+// byte of most: a call for each byte costs more than the byte.
+#[inline(always)]
+fn decode_one(s: &[u8]) -> Option<Meant>
+    ensures { result ≡ meant_of (meant s.now) }
+{
+    match s.first() {
+        None | Some(b'\n' | b'\r') => None,
+        Some(b'\\') => decode_escape(s),
+        Some(b) => Some(Meant { byte: *b, len: 1 }),
     }
 }
 

@@ -22,6 +22,9 @@ pub(crate) fn name_at<'a>(body: Body<'a>, i: usize) -> &'a [u8]
 pub(crate) fn span_within(records: &[u8], i: usize, left: usize) -> Option<usize>
     ensures { SpanIs records.now i left result }
 {
+    if !fits(records.len(), i, TABLE_RECORD) {
+        return None;
+    }
     let span = span_at(records, i);
     let past = left < span;
     if span == 0 || past || !fits(records.len(), i, TABLE_RECORD * span) {
@@ -30,7 +33,8 @@ pub(crate) fn span_within(records: &[u8], i: usize, left: usize) -> Option<usize
     Some(span)
 }
 
-// The attribute of this name among n records.
+// The attribute of this name among n records. It stands within the search for a name that stands twice.
+#[inline(always)]
 pub fn find_child(body: Body, from: usize, n: usize, name: &[u8]) -> Option<usize>
     ensures { result ≡ found_in body.entry.records.now body.entry.text.now from n name.now }
 {

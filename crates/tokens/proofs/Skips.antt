@@ -12,7 +12,7 @@ use lib.Dec.{eqb, lit<}
 use lib.Pointwise.{pointwise}
 use Rattle.std.specs.List.{starts_with}
 use Rattle.std.proofs.lemmas.Grind.{common_steps}
-use borrow.Author.Tests.{eqb-true}
+use borrow.Author.Tests.{eqb-true, ne_eqb}
 use Rattle.theorems.proofs.Scanned.Classes.{and_left, and_right}
 use Rattle.theorems.proofs.Laws.Rescan.{span_le}
 use Rattle.paper.specs.Bytes.{at, is, when◌then◌else◌}
@@ -117,6 +117,15 @@ module _ (s : List ℕ) where
   gap_slash : blank (at s 0) ≡ false → is "/" (at s 0) ≡ true → is "/" (at s 1) ≡ false → is "*" (at s 1) ≡ false → gap s ≡ some 0
   unfolding gap when◌then◌else◌
   gap_slash e f g h = rw (e, f, g, h)
+
+-- at a first byte that is no `/` and no blank
+pub gap_other : (s : List ℕ) (b : ℕ) → at s 0 ≡ b → (b ≡ 47 → ⊥) → blank b ≡ false → gap s ≡ some 0
+gap_other s b e n f = gap_plain s (ap blank e ∙ f) (ap (is "/") e ∙ ne_eqb 47 b (λ q. n (sym q)))
+
+-- and where nothing stands
+pub gap_nowhere : (s : List ℕ) → at s 0 ≡ 256 → gap s ≡ some 0
+unfolding blank
+gap_nowhere s e = gap_plain s (ap blank e) (ap (is "/") e)
 
 -- as the code's tests say
 module _ (s : List ℕ) where

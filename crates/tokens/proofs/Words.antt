@@ -6,7 +6,7 @@ use lib.ListN.{drop_of_length-le}
 use lib.Seq.{drop-cons}
 use Rattle.std.proofs.Math.ListN.{get_or-map}
 use lib.Dec.{eqb}
-use borrow.Author.Tests.{eqb-true}
+use borrow.Author.Tests.{eqb-true, eq-eqb}
 use Rattle.paper.specs.Bytes.{bytes, same, when◌then◌else◌}
 use Rattle.paper.specs.Tokens.{reserved}
 use Rattle.theorems.proofs.Scanned.Classes.{and_left, and_right}
@@ -23,6 +23,20 @@ same_eq [] [] e = refl
 same_eq [] (y ∷ b) e = absurd (false≢true e)
 same_eq (x ∷ a) [] e = absurd (false≢true e)
 same_eq (x ∷ a) (y ∷ b) e = ap₂ (λ (n : ℕ) (l : List ℕ). n ∷ l) (eqb-true x y (and_left (eqb x y) (same a b) e)) (same_eq a b (and_right (eqb x y) (same a b) e))
+
+same_refl : (a : List ℕ) → same a a ≡ true
+same_refl [] = refl
+same_refl (x ∷ a) = rw (eq-eqb x x refl) (same_refl a)
+
+pub eq_same : (a b : List ℕ) → a ≡ b → same a b ≡ true
+eq_same a b e = ap (same a) (sym e) ∙ same_refl a
+
+pub ne_same : (a b : List ℕ) → (a ≡ b → ⊥) → same a b ≡ false
+ne_same a b h = case (same a b) refl
+  where
+    case : (t : Bool) → same a b ≡ t → same a b ≡ false
+    case true e = absurd (h (same_eq a b e))
+    case false e = e
 
 -- ---- the table
 

@@ -1,6 +1,6 @@
 // What is skipped before a token: blanks and comments.
 ghost use Rattle.std.specs.Prelude.{◌≡◌, not};
-ghost use Rattle.paper.specs.Bytes.{is};
+ghost use Rattle.paper.specs.Bytes.{at, is};
 ghost use Rattle.paper.specs.Scanner.{span, closing, gap};
 ghost use Rattle.spelling.specs.Text.{option_of};
 ghost use Rattle.refusal.specs.Refused.{answered};
@@ -28,9 +28,10 @@ fn comment_len(s: &[u8]) -> Option<usize>
     None
 }
 
-// The length of the blank or the comment at the front: 0 where none stands there, and none for a comment
-// that is not closed.
-fn gap_len(s: &[u8]) -> Option<usize>
+// The length of the comment at the front, where a `/` stands there: 0 where it begins none, and none for one that is
+// not closed.
+fn slash_len(s: &[u8]) -> Option<usize>
+    requires { at s.now 0 ≡ 47 }
     ensures { result ≡ option_of (gap s.now) }
 {
     if let Some(line) = s.strip_prefix(b"//") {
@@ -38,10 +39,19 @@ fn gap_len(s: &[u8]) -> Option<usize>
     } else if let Some(comment) = s.strip_prefix(b"/*") {
         Some(2 + comment_len(comment)?)
     } else {
-        match s.first() {
-            Some(b) if Class::of(*b) == Class::Blank => Some(1),
-            _ => Some(0),
-        }
+        Some(0)
+    }
+}
+
+// The length of the blank or the comment at the front: 0 where none stands there, and none for a comment
+// that is not closed. Most tokens follow a blank or nothing, so the first byte is looked at alone.
+fn gap_len(s: &[u8]) -> Option<usize>
+    ensures { result ≡ option_of (gap s.now) }
+{
+    match s.first() {
+        Some(b'/') => slash_len(s),
+        Some(b) if Class::of(*b) == Class::Blank => Some(1),
+        _ => Some(0),
     }
 }
 

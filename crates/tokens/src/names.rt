@@ -45,12 +45,21 @@ const WORDS: [([u8; 9], usize, Word); 14] = [
     (*b"IPROPERTY", 9, Word::Iproperty),
 ];
 
-// Whether a name is the first n bytes.
+// Whether a name is the first n bytes. Byte by byte: over the constant list the search is then compiled to a choice by
+// length and letters, where `==` is a call for each word.
 fn is_spelt(name: &[u8], bytes: &[u8; 9], n: usize) -> bool
     requires { n ≤ 9 }
     ensures { result ≡ same name.now (take n bytes.now) }
 {
-    name == &bytes[..n]
+    if name.len() != n {
+        return false;
+    }
+    for i in 0..n {
+        if name[i] != bytes[i] {
+            return false;
+        }
+    }
+    true
 }
 
 // How many bytes at the front go on a name.

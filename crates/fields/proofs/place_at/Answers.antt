@@ -1,9 +1,10 @@
 -- `fields::place_at` meets its contract. Assumes nothing.
 use Prim.Native.Nat.{◌+◌}
 use native.Mathlib.Omega.{arith}
-use mathlib.Core.Path.{◌∙◌}
-use Rattle.fields.proofs.Far.{word_far}
+use mathlib.Core.Path.{sym, ◌∙◌}
+use borrow.Author.Tests.{leb-false}
+use Rattle.memory.proofs.Laws.{word_out}
 use Rattle.fields.proofs.place_at.Goals as goal
 
-pub returns : goal.returns
-returns c = c.get32.ensures ∙ word_far 4 c.args.recs.now (c.args.i + 16) _ (omega arith) (omega arith) c.saturating_add.ensures
+pub returns-else-fits : goal.returns-else-fits
+returns-else-fits c = sym (word_out 4 c.args.recs.now (c.args.i + 16) (omega (arith, leb-false _ _ (sym c.fits.ensures ∙ c.if-fits.false))))

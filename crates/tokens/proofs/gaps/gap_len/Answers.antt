@@ -1,75 +1,33 @@
 -- `tokens::gaps::gap_len` meets its contract. Assumes nothing.
-use Rattle.std.proofs.Common.{◌≡◌, ℕ, ◌+◌, List, [], ◌∷◌, false, take, drop, Some, not, sym, ap, ◌∙◌, rules, arith}
-use mathlib.Core.Option.{some}
-use lib.Dec.{eqb, lit<}
-use lib.Pointwise.{pointwise}
+use Rattle.std.proofs.Common.{◌≡◌, sym, ap, ◌∙◌, rules, arith}
 use denote.Enum.Bare.{same_true, same_false}
 use Rattle.std.specs.Option.{option_copied}
-use Rattle.paper.specs.Bytes.{at, is}
 use Rattle.paper.specs.Tokens.{blank}
-use Rattle.paper.specs.Scanner.{span, closing, gap}
-use Rattle.theorems.proofs.Laws.Rescan.{span_le}
 use Rattle.spelling.specs.Text.{option_of}
 use Rattle.tokens.specs.contracts.class.Class.{the_type}
 use Rattle.tokens.proofs.Classes.{at_some, at_none, blank_yes, blank_no}
-use Rattle.tokens.proofs.Skips.{two_front, line_here, comment_here, no_gap, gap_blank, comment_more, comment_open, comment_le}
+use Rattle.tokens.proofs.Skips.{gap_blank, gap_other, gap_nowhere}
 use Rattle.tokens.proofs.gaps.gap_len.Goals as goal
-
-pub overflow_add-result : goal.overflow_add-result
-overflow_add-result c =
-    let p = c.in-Some.ensures.cases in
-    omega (arith, span_le (λ b. not (is "\n" b)) c.in-Some.line.now, c.well_formed)
 
 pub returns-in-Some : goal.returns-in-Some
 unfolding option_of
 returns-in-Some c =
     let s = c.args.s.now in
-    let p = c.in-Some.ensures.cases in
-    ap (λ (n : ℕ). Some (2 + n)) (c.line_len.ensures ∙ ap (span (λ b. not (is "\n" b))) p.1)
-    ∙ ap option_of (sym (line_here s (sym (two_front 47 47 (lit< tt) (lit< tt) s) ∙ p.0)))
+    let b = c.in-Some.b.now in
+    let e = sym c.of.ensures ∙ same_true the_type (search rules) _ _ (sym c.eq.ensures ∙ c.if-eq.true) in
+    ap option_of (sym (gap_blank s (ap blank (at_some s 0 b c.in-Some.ensures.value) ∙ blank_yes b (omega arith) e)))
 
-pub returns-in_err-comment_len : goal.returns-in_err-comment_len
-returns-in_err-comment_len c =
-    let s = c.args.s.now in
-    let p = c.in-Some-strip_prefix.ensures.cases in
-    c.from_residual.ensures ∙ comment_open (closing (drop 2 s)) (c.in_err-comment_len.ensures ∙ ap (λ (t : List ℕ). option_of (closing t)) p.1)
-    ∙ ap option_of (sym (comment_here s (sym (two_front 47 42 (lit< tt) (lit< tt) s) ∙ p.0)))
-
-pub overflow_add-result-in-Some-strip_prefix : goal.overflow_add-result-in-Some-strip_prefix
-overflow_add-result-in-Some-strip_prefix c =
-    let p = c.in-Some-strip_prefix.ensures.cases in
-    omega (arith, comment_le c.in-Some-strip_prefix.comment.now _ c.in_ok-comment_len.ensures, c.well_formed)
-
-pub returns-in_ok-comment_len : goal.returns-in_ok-comment_len
-returns-in_ok-comment_len c =
-    let s = c.args.s.now in
-    let p = c.in-Some-strip_prefix.ensures.cases in
-    comment_more (closing (drop 2 s)) _ (c.in_ok-comment_len.ensures ∙ ap (λ (t : List ℕ). option_of (closing t)) p.1)
-    ∙ ap option_of (sym (comment_here s (sym (two_front 47 42 (lit< tt) (lit< tt) s) ∙ p.0)))
-
-pub returns-in-Some-first : goal.returns-in-Some-first
+pub returns-in_default : goal.returns-in_default
 unfolding option_of
-returns-in-Some-first c =
+returns-in_default c =
     let s = c.args.s.now in
-    let b = c.in-Some-first.b.now in
-    let e = sym c.of.ensures ∙ same_true the_type (search rules) _ _ (sym c.if-eq.ensures) in
-    ap option_of (sym (gap_blank s (ap blank (at_some s 0 b c.in-Some-first.ensures.value) ∙ blank_yes b (omega arith) e)))
+    let b = c.in-Some.b.now in
+    let other : b ≡ 47 → ⊥ = search rules in
+    let no = blank_no b (omega arith) (λ e. same_false the_type _ _ (sym c.eq.ensures ∙ c.if-eq.false) (c.of.ensures ∙ e)) in
+    ap option_of (sym (gap_other s b (at_some s 0 b c.in-Some.ensures.value) other no))
 
--- neither two bytes stand at the front
-plain : (s : List ℕ) → pointwise eqb (take 2 s) (47 ∷ 47 ∷ []) ≡ false → pointwise eqb (take 2 s) (47 ∷ 42 ∷ []) ≡ false → blank (at s 0) ≡ false → gap s ≡ some 0
-plain s e f g = no_gap s (sym (two_front 47 47 (lit< tt) (lit< tt) s) ∙ e) (sym (two_front 47 42 (lit< tt) (lit< tt) s) ∙ f) g
-
-pub returns-in_default-first : goal.returns-in_default-first
+pub returns-in_default-2 : goal.returns-in_default-2
 unfolding option_of
-returns-in_default-first c =
+returns-in_default-2 c =
     let s = c.args.s.now in
-    let b = c.in-Some-first.b.now in
-    let no = blank_no b (omega arith) (λ e. same_false the_type _ _ (sym c.if-eq.ensures) (c.of.ensures ∙ e)) in
-    ap option_of (sym (plain s c.in_default.ensures.cases c.in_default-strip_prefix.ensures.cases (ap blank (at_some s 0 b c.in-Some-first.ensures.value) ∙ no)))
-
-pub returns-in_default-first-2 : goal.returns-in_default-first-2
-unfolding option_of blank
-returns-in_default-first-2 c =
-    let s = c.args.s.now in
-    let none = at_none s 0 (sym (ap option_copied c.in_default-first.is) ∙ c.first.ensures.value) in
-    ap option_of (sym (plain s c.in_default.ensures.cases c.in_default-strip_prefix.ensures.cases (ap blank none)))
+    ap option_of (sym (gap_nowhere s (at_none s 0 (sym (ap option_copied c.in_default.is) ∙ c.first.ensures.value))))

@@ -1,15 +1,11 @@
 -- `Texts::name_of` meets its contract. Assumes nothing.
-use native.Mathlib.Omega.{arith}
 use mathlib.Core.Path.{◌∙◌}
-use Rattle.rows.proofs.Texts.{name_empty, name_rest, name_is}
+use Rattle.rows.proofs.Texts.{byte_there, part_there, name_is}
 use Rattle.rows.proofs.text.Texts.name_of.Goals as goal
 
-pub returns-in_default : goal.returns-in_default
-returns-in_default c =
-    let a = c.args in
-    name_empty _ (omega arith) ∙ name_is a.self.list.now a.self.table.now _ a.place _ c.part.ensures c.byte_of.ensures.0
-
-pub returns-in-len1-up : goal.returns-in-len1-up
-returns-in-len1-up c =
-    let a = c.args in
-    name_rest c.part.result.now ∙ name_is a.self.list.now a.self.table.now c.part.result.now a.place _ c.part.ensures c.byte_of.ensures.0
+pub returns : goal.returns
+returns c =
+    let t = c.args.self.list.now in
+    let u = c.args.self.table.now in
+    let p = c.args.place in
+    c.name_in.ensures ∙ name_is t u _ p _ (part_there t u p _ _ c.home-at.ensures _) (byte_there t u p _ _ c.home-at.ensures)
